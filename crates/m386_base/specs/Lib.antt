@@ -1,0 +1,7 @@
+pub mod Bus
+pub mod Bytes
+pub mod Descriptor
+pub mod Laws
+pub mod Phrase
+pub mod Replay
+pub mod Split

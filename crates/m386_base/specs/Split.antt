@@ -1,0 +1,56 @@
+-- The aligned groups of an access.
+use Rattle.std.specs.Prelude.{ℕ, ◌+◌, ◌-◌, ◌*◌, ◌%◌, ◌^◌, List, [], ◌∷◌, ◌/◌, ◌<◌, ◌≡◌, if◌then◌else◌, nat_le, ◌==◌, bit_and}
+use Rattle.m386_base.specs.declared.ask.Space.{Space}
+use Rattle.m386_base.specs.declared.ask.Space.TheVariants.{Memory, Port}
+use Rattle.m386_base.specs.declared.split.Piece.{Piece}
+use Rattle.m386_base.specs.Bus.{mask, IsInSpace}
+
+-- an address modulo the size of its space
+abbrev pub wrapped : Space → ℕ → ℕ
+wrapped Memory addr = addr % 2 ^ 32
+wrapped Port addr = addr % 2 ^ 16
+
+-- the enables of n bytes of a group, from byte `at` on
+abbrev pub ones_at : ℕ → ℕ → ℕ
+ones_at at n = (2 ^ n - 1) * 2 ^ at
+
+-- the groups of the access whose first byte stands there, that of the first byte first
+abbrev pub pieces_from : Space → ℕ → ℕ → List Piece
+pieces_from space first len =
+    let at = first % 4 in
+    if nat_le (at + len) 4 then record { addr = first - at; enables = ones_at at len; place = 0 } ∷ []
+    else record { addr = first - at; enables = ones_at at (4 - at); place = 0 }
+    ∷ record { addr = wrapped space (first - at + 4); enables = ones_at 0 (at + len - 4); place = 4 - at } ∷ []
+
+-- The aligned groups that hold the bytes addr to addr + len - 1, modulo the size of the space.
+-- Source: Intel 80386 PRM 2.1; the form of a group: docs/DECISIONS.md, "The form of a bus cycle"
+unfoldable pub pieces : Space → ℕ → ℕ → List Piece
+pieces space addr len = pieces_from space (wrapped space addr) len
+
+-- what each group of an access is
+pub record IsGroup (space : Space) (p : Piece) : Type 0 where
+  pub aligned : p.addr % 4 ≡ 0
+  pub inside : IsInSpace space p.addr
+  pub some : 0 < p.enables
+  pub group : p.enables < 16
+  pub place : p.place < 4
+
+-- each of these is a group
+abbrev pub AreGroups : Space → List Piece → Type 0
+AreGroups space [] = Unit {0}
+AreGroups space (p ∷ ps) = IsGroup space p × AreGroups space ps
+
+-- the place in the group of its first enabled byte
+abbrev pub lowest : ℕ → ℕ
+lowest enables =
+    if bit_and enables 1 == 1 then 0 else if bit_and enables 2 == 2 then 1 else if bit_and enables 4 == 4 then 2 else 3
+
+-- the bytes of an access that stand in a group, put there
+unfoldable pub spread_of : Piece → ℕ → ℕ
+spread_of p value = bit_and (if p.place == 0 then value * 2 ^ (8 * lowest p.enables) % 2 ^ 32 else value / 2 ^ (8 * p.place)) (mask p.enables)
+
+-- the bytes of a group, put at their places in the access
+unfoldable pub gather_of : Piece → ℕ → ℕ
+gather_of p value =
+    let bytes = bit_and value (mask p.enables) in
+    if p.place == 0 then bytes / 2 ^ (8 * lowest p.enables) else bytes * 2 ^ (8 * p.place) % 2 ^ 32

@@ -1,0 +1,12 @@
+//! What every crate of the machine speaks in: cycles, faults, the bus of one processor, the groups of an access, and
+//! the plain values that state, operations and arithmetic share.
+#![tactic(auto)]
+
+pub mod ask;
+pub mod bus;
+pub mod desc;
+pub mod fault;
+pub mod list;
+pub mod number;
+pub mod probe;
+pub mod split;
