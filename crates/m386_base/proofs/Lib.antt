@@ -1,4 +1,5 @@
 pub mod Bounds
+pub mod Descriptors
 pub mod Finite
 pub mod Groups
 pub mod Masks
