@@ -1,9 +1,9 @@
 -- Phrases laid end to end, and what holds of them.
-use Rattle.std.proofs.Common.{◌≡◌, ℕ, zero, suc, ◌+◌, ◌≤◌, List, [], ◌∷◌, length, refl, subst, arith, true, false, Bool}
+use Rattle.std.proofs.Common.{◌≡◌, ℕ, zero, suc, ◌+◌, ◌-◌, ◌≤◌, cond, List, [], ◌∷◌, ◌++◌, length, refl, subst, arith, true, false, Bool}
 use Rattle.m386_base.specs.declared.ask.Ask.{Ask}
 use Rattle.m386_base.specs.declared.fault.Fault.{Fault}
-use Rattle.m386_base.specs.Phrase.{Phrase, Done, Faults, Asks, Begins, ◌>>=◌, follow, Whole, Wants, Wrong, matches, answer_of}
-use Rattle.m386_base.specs.Laws.{AtMost, Obeys}
+use Rattle.m386_base.specs.Phrase.{Phrase, Done, Faults, Asks, Begins, ◌>>=◌, either, follow, Whole, Faulted, Wants, Wrong, matches, answer_of}
+use Rattle.m386_base.specs.Laws.{AtMost, Obeys, Sound}
 
 -- more is allowed
 pub at_most_more : {A : Type 0} (m n : ℕ) (t : Phrase A) → AtMost m t → AtMost (m + n) t
@@ -23,6 +23,64 @@ at_most_then m n (Begins x t) f h k = at_most_then m n t f h k
 at_most_then zero n (Asks q c) f h k = absurd h
 at_most_then (suc m) n (Asks q c) f h k =
     let e : suc m + n ≡ suc (m + n) = omega arith in rw e (λ v. at_most_then m n (c v) f (h v) k)
+
+-- a phrase with what follows from its end and from its fault
+pub at_most_either : {A B : Type 0} (m n : ℕ) (t : Phrase A) (f : A → Phrase B) (g : Fault → Phrase B) → AtMost m t → ((a : A) → AtMost n (f a)) → ((x : Fault) → AtMost n (g x)) → AtMost (m + n) (either t f g)
+unfolding either
+at_most_either m n (Done a) f g h k l =
+    let e : m + n ≡ n + m = omega arith in rw e (at_most_more n m (f a) (k a))
+at_most_either m n (Faults x) f g h k l =
+    let e : m + n ≡ n + m = omega arith in rw e (at_most_more n m (g x) (l x))
+at_most_either m n (Begins x t) f g h k l = at_most_either m n t f g h k l
+at_most_either zero n (Asks q c) f g h k l = absurd h
+at_most_either (suc m) n (Asks q c) f g h k l =
+    let e : suc m + n ≡ suc (m + n) = omega arith in rw e (λ v. at_most_either m n (c v) f g (h v) k l)
+
+-- a larger bound holds as well
+pub at_most_within : {A : Type 0} (m n : ℕ) (t : Phrase A) → m ≤ n → AtMost m t → AtMost n t
+at_most_within m n t l h = let e : n ≡ m + (n - m) = omega arith in rw e (at_most_more m (n - m) t h)
+
+-- either branch of a choice
+pub at_most_if : {A : Type 0} (n : ℕ) (b : Bool) (t u : Phrase A) → AtMost n t → AtMost n u → AtMost n (cond b t u)
+at_most_if n true t u h k = h
+at_most_if n false t u h k = k
+
+-- a phrase whose faults are caught ends in none
+pub sound_either : {A B : Type 0} (t : Phrase A) (f : A → Phrase B) (g : Fault → Phrase B) → ((a : A) → Sound (f a)) → ((x : Fault) → Sound (g x)) → Sound (either t f g)
+unfolding either
+sound_either (Done a) f g k l = k a
+sound_either (Faults x) f g k l = l x
+sound_either (Begins m t) f g k l = sound_either t f g k l
+sound_either (Asks q c) f g k l = λ v. sound_either (c v) f g k l
+
+-- cycles of a phrase that ends in no fault are never judged as one
+pub sound_never : {A : Type 0} (t : Phrase A) (x : Fault) (ts rest : List Ask) → Sound t → follow t ts ≡ Faulted x rest → ⊥
+unfolding follow
+sound_never (Done a) x ts rest h e = cc
+sound_never (Faults f) x ts rest h e = absurd h
+sound_never (Begins m t) x ts rest h e = sound_never t x ts rest h e
+sound_never (Asks q k) x [] rest h e = cc
+sound_never {A = A} (Asks q k) x (t ∷ ts) rest h e = go (matches q t) refl (sound_never (k (answer_of t)) x ts rest (h (answer_of t)))
+  where
+    go : (b : Bool) → matches q t ≡ b → (follow (k (answer_of t)) ts ≡ Faulted x rest → ⊥) → ⊥
+    go true f ih = ih (rw f at e)
+    go false f ih = let d : Wrong ≡ Faulted x rest = rw f at e in cc
+
+-- what was whole stays whole, whatever follows
+pub follow-front : {A : Type 0} (t : Phrase A) (a : A) (ts rest us : List Ask) → follow t ts ≡ Whole a rest → follow t (ts ++ us) ≡ Whole a (rest ++ us)
+unfolding follow
+follow-front (Done b) a ts rest us e =
+    let b_is : b ≡ a = cc in
+    let rest_is : ts ≡ rest = cc in
+    rw (b_is, rest_is) refl
+follow-front (Faults f) a ts rest us e = cc
+follow-front (Begins m t) a ts rest us e = follow-front t a ts rest us e
+follow-front (Asks q k) a [] rest us e = cc
+follow-front {A = A} (Asks q k) a (t ∷ ts) rest us e = go (matches q t) refl (follow-front (k (answer_of t)) a ts rest us)
+  where
+    go : (b : Bool) → matches q t ≡ b → (follow (k (answer_of t)) ts ≡ Whole a rest → follow (k (answer_of t)) (ts ++ us) ≡ Whole a (rest ++ us)) → cond (matches q t) (follow (k (answer_of t)) (ts ++ us)) Wrong ≡ Whole a (rest ++ us)
+    go true f ih = rw f (ih (rw f at e))
+    go false f ih = let d : Wrong ≡ Whole a rest = rw f at e in cc
 
 -- a whole step has no more cycles than its phrase
 pub at_most_whole : {A : Type 0} (n : ℕ) (t : Phrase A) (a : A) (ts : List Ask) → AtMost n t → follow t ts ≡ Whole a [] → length ts ≤ n

@@ -1,5 +1,6 @@
 -- The groups of an access are groups of its space, and each of its bytes stands in one of them.
-use Rattle.std.proofs.Common.{arith, ◌≡◌, ℕ, ◌+◌, ◌-◌, ◌%◌, ◌^◌, ◌<◌, ◌≤◌, refl, Bool, true, false, cond, nat_le, nat_lt, ◌&&◌, ◌⊎◌}
+use Rattle.std.proofs.Common.{arith, ◌≡◌, ℕ, ◌+◌, ◌-◌, ◌%◌, ◌^◌, ◌<◌, ◌≤◌, refl, Bool, true, false, cond, nat_le, nat_lt, ◌&&◌, zero, suc, length, get_or, List, [], ◌∷◌, ◌⊎◌}
+use Rattle.m386_base.specs.declared.split.Piece.{Piece}
 use Rattle.m386_base.specs.declared.ask.Space.{Space}
 use Rattle.m386_base.specs.declared.ask.Space.TheVariants.{Memory, Port}
 use Rattle.m386_base.proofs.Finite.{all_below, each_below}
@@ -54,3 +55,13 @@ groups_from space first len i l m = go (nat_le (first % 4 + len) 4) refl
 pub groups_of : (space : Space) (addr len : ℕ) → (len ≡ 1) ⊎ (len ≡ 2) ⊎ (len ≡ 4) → AreGroups space (pieces space addr len)
 unfolding pieces
 groups_of space addr len l = groups_from space (wrapped space addr) len (wrapped_in space addr) (grind arith) (grind arith)
+
+-- what is read past the end of a list of groups
+abbrev pub no_piece : Piece
+no_piece = record { addr = 0; enables = 0; place = 0 }
+
+-- each group of an access, by its place
+pub group_at : (space : Space) (ps : List Piece) (i : ℕ) → AreGroups space ps → i < length ps → IsGroup space (get_or ps i no_piece)
+group_at space [] i h l = absurd (omega arith)
+group_at space (p ∷ ps) zero h l = h.0
+group_at space (p ∷ ps) (suc i) h l = group_at space ps i h.1 (omega arith)

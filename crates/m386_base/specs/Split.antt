@@ -1,5 +1,6 @@
 -- The aligned groups of an access.
 use Rattle.std.specs.Prelude.{ℕ, ◌+◌, ◌-◌, ◌*◌, ◌%◌, ◌^◌, List, [], ◌∷◌, ◌/◌, ◌<◌, ◌≡◌, if◌then◌else◌, nat_le, ◌==◌, bit_and}
+use Rattle.std.specs.List.{AllByRecursion}
 use Rattle.m386_base.specs.declared.ask.Space.{Space}
 use Rattle.m386_base.specs.declared.ask.Space.TheVariants.{Memory, Port}
 use Rattle.m386_base.specs.declared.split.Piece.{Piece}
@@ -37,8 +38,7 @@ pub record IsGroup (space : Space) (p : Piece) : Type 0 where
 
 -- each of these is a group
 abbrev pub AreGroups : Space → List Piece → Type 0
-AreGroups space [] = Unit {0}
-AreGroups space (p ∷ ps) = IsGroup space p × AreGroups space ps
+AreGroups space ps = AllByRecursion (IsGroup space) ps
 
 -- the place in the group of its first enabled byte
 abbrev pub lowest : ℕ → ℕ

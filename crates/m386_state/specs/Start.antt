@@ -1,5 +1,5 @@
 -- How a processor begins, and what its state says of its privilege.
-use Rattle.std.specs.Prelude.{ℕ, ◌%◌, List, [], ◌∷◌, true, false, Option, Some, None, slice_index_or}
+use Rattle.std.specs.Prelude.{ℕ, ◌%◌, [], ◌∷◌, true, false, Some, None, slice_index_or}
 use Rattle.m386_base.specs.Descriptor.{descriptor, no_descriptor}
 use Rattle.m386_state.specs.declared.segment.Seg.{Seg}
 use Rattle.m386_state.specs.declared.segment.TableReg.{TableReg}

@@ -1,0 +1,4 @@
+pub mod Locked
+pub mod Pieces
+pub mod Short
+pub mod StepLists

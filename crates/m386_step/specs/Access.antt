@@ -1,0 +1,49 @@
+-- Operands in memory.
+use Rattle.std.specs.Prelude.{ℕ, Bool, true, false, List, [], ◌∷◌, ◌+◌, ◌^◌, bit_or, nat_le, if◌then◌else◌, Some}
+use Rattle.m386_base.specs.declared.ask.Ask.{Ask}
+use Rattle.m386_base.specs.declared.ask.Space.TheVariants.{Memory}
+use Rattle.m386_base.specs.declared.ask.Role.{Role}
+use Rattle.m386_base.specs.declared.fault.Fault.{Fault}
+use Rattle.m386_base.specs.declared.split.Piece.{Piece}
+use Rattle.m386_base.specs.Split.{pieces, gather_of, spread_of}
+use Rattle.m386_base.specs.Phrase.{Phrase, Done, Faults, ◌>>=◌, one}
+
+-- #GP(0).
+-- Source: Intel 80386 PRM 9.8.13
+abbrev pub general_protection_of : Fault
+general_protection_of = record { vector = 13; code = Some 0 }
+
+-- the groups of an operand
+abbrev pub memory_pieces : ℕ → ℕ → List Piece
+memory_pieces offset len = pieces Memory offset len
+
+-- a group of an access, read
+abbrev pub read_ask : Role → Bool → Piece → Ask
+read_ask role joined p = record { space = Memory; write = false; joined = joined; role = role; part = p.place; addr = p.addr; enables = p.enables; value = 0 }
+
+-- groups read one after another, each put at its place
+unfoldable pub reads : Role → ℕ → List Piece → Phrase ℕ
+reads role value [] = Done value
+reads role value (p ∷ ps) = do
+  found ← one (read_ask role false p)
+  reads role (bit_or value (gather_of p found)) ps
+
+-- a group of an access, written
+abbrev pub write_ask : Role → Bool → Piece → ℕ → Ask
+write_ask role joined p value = record { space = Memory; write = true; joined = joined; role = role; part = p.place; addr = p.addr; enables = p.enables; value = spread_of p value }
+
+-- groups written one after another
+unfoldable pub writes : Role → ℕ → List Piece → Phrase (Unit {0})
+writes role value [] = Done tt
+writes role value (p ∷ ps) = do
+  _ ← one (write_ask role false p value)
+  writes role value ps
+
+-- An operand read through a flat segment: a fault, and no cycle, where a byte passes FFFFFFFFh.
+-- Source: Intel 80386 PRM 6.3.1
+unfoldable pub read_phrase : Role → ℕ → ℕ → Phrase ℕ
+read_phrase role offset len = if nat_le (offset + len) (2 ^ 32) then reads role 0 (memory_pieces offset len) else Faults general_protection_of
+
+-- an operand written through a flat segment
+unfoldable pub write_phrase : Role → ℕ → ℕ → ℕ → Phrase (Unit {0})
+write_phrase role offset len value = if nat_le (offset + len) (2 ^ 32) then writes role value (memory_pieces offset len) else Faults general_protection_of

@@ -1,0 +1,42 @@
+-- The bytes of an instruction.
+use Rattle.std.specs.Prelude.{ℕ, ◌+◌, ◌-◌, ◌*◌, ◌/◌, ◌%◌, ◌^◌, true, false, ◌&&◌, ◌==◌, if◌then◌else◌}
+use Rattle.std.specs.Int.{from_le_bytes, w32}
+use Rattle.std.specs.Prelude.{[], ◌∷◌}
+use Rattle.m386_base.specs.declared.ask.Ask.{Ask}
+use Rattle.m386_base.specs.declared.ask.Space.TheVariants.{Memory}
+use Rattle.m386_base.specs.declared.ask.Role.TheVariants.{Fetch}
+use Rattle.m386_base.specs.Phrase.{Phrase, Done, ◌>>=◌, one}
+use Rattle.m386_step.specs.declared.fetch.Reader.{Reader}
+
+-- byte at % 4 of a group
+abbrev pub byte_in : ℕ → ℕ → ℕ
+byte_in value at = value / 2 ^ (8 * (at % 4)) % 256
+
+-- the whole group at an address
+abbrev pub fetch_ask : ℕ → Ask
+fetch_ask group = record { space = Memory; write = false; joined = false; role = Fetch; part = 0; addr = group; enables = 15; value = 0 }
+
+-- a reader that begins at an instruction
+abbrev pub first_reader : ℕ → Reader
+first_reader eip = record { at = eip; fetched = false; group = 0; value = 0 }
+
+-- a byte of the group that was fetched last, and the reader behind it
+abbrev pub taken : Reader → ℕ × Reader
+taken r = (byte_in r.value r.at, record r { at = (r.at + 1) % 2 ^ 32 })
+
+-- The next byte. Its group is fetched where it isn't the one that was fetched last.
+-- Own choice: docs/DECISIONS.md, "Fetches"
+unfoldable pub byte_phrase : Reader → Phrase (ℕ × Reader)
+byte_phrase r =
+    let group = r.at - r.at % 4 in
+    if r.fetched && (r.group == group) then Done (taken r) else (one (fetch_ask group) >>= (λ v.
+    Done (taken (record r { fetched = true; group = group; value = v }))))
+
+-- four bytes as a number, the lowest first
+unfoldable pub number_phrase : Reader → Phrase (ℕ × Reader)
+number_phrase r = do
+  b0 ← byte_phrase r
+  b1 ← byte_phrase b0.1
+  b2 ← byte_phrase b1.1
+  b3 ← byte_phrase b2.1
+  Done (from_le_bytes w32 (b0.0 ∷ b1.0 ∷ b2.0 ∷ b3.0 ∷ []), b3.1)

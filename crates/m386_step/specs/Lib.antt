@@ -1,0 +1,12 @@
+pub mod Access
+pub mod After
+pub mod Exchange
+pub mod Fetch
+pub mod Halt
+pub mod Instruction
+pub mod Jump
+pub mod Moves
+pub mod Opcode
+pub mod Probes
+pub mod Step
+pub mod Steps

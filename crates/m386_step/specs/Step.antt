@@ -1,0 +1,60 @@
+-- One step of one processor, as a grammar over its cycles.
+use Rattle.std.specs.Prelude.{◌==◌, ◌&&◌, ◌||◌, Bool, false, not, bit_and, if◌then◌else◌, Some, None, is_some, List}
+use Rattle.m386_base.specs.declared.ask.Ask.{Ask}
+use Rattle.m386_base.specs.declared.fault.Fault.{Fault}
+use Rattle.m386_base.specs.Phrase.{Phrase, Done, either, Judgement, follow}
+use Rattle.m386_state.specs.declared.event.Event.{Event}
+use Rattle.m386_state.specs.declared.event.Cause.TheVariants.{Exception}
+use Rattle.m386_state.specs.declared.proc.Proc.{Proc}
+use Rattle.m386_state.specs.declared.proc.Mode.{Mode}
+use Rattle.m386_state.specs.declared.proc.Mode.TheVariants.{Running, Halted, Shutdown}
+use Rattle.m386_step.specs.Instruction.{instruction_phrase}
+
+-- bits of EFLAGS
+abbrev pub trap_flag : Proc → Bool
+trap_flag p = not (bit_and p.eflags.0 0x100 == 0)
+
+abbrev pub interrupt_flag : Proc → Bool
+interrupt_flag p = not (bit_and p.eflags.0 0x200 == 0)
+
+-- A start, a pending event, or a request with IF set and no shadow comes before anything else.
+-- Source: Intel 80386 PRM 9.2, 9.4; the start: docs/DECISIONS.md, "One step"
+abbrev pub is_due : Proc → Bool
+is_due p = is_some p.start || is_some p.pending || (is_some p.request && interrupt_flag p && not p.shadow)
+
+-- As long as no delivery is built, an event that is due is dropped, and the processor is shut down.
+-- Own choice: docs/DECISIONS.md, "Events before delivery is built"
+abbrev pub without_event : Proc → Proc
+without_event p = record p { start = None; pending = None; request = None; mode = Shutdown }
+
+-- the event of an exception
+abbrev pub event_of : Fault → Event
+event_of f = record { vector = f.vector; code = f.code; cause = Exception }
+
+-- an exception is pending
+abbrev pub faulted : Proc → Fault → Proc
+faulted p f = record p { pending = Some (event_of f) }
+
+-- With TF set at the start of an instruction, vector 1 is pending after it.
+-- Source: Intel 80386 PRM 12.3.1.4
+abbrev pub traced : Proc → Proc → Proc
+traced before after = if trap_flag before then record after { pending = Some (record { vector = 1; code = None; cause = Exception }) } else after
+
+-- an instruction, with its fault or its trap pending afterwards
+unfoldable pub running_phrase : Proc → Phrase Proc
+running_phrase p = either (instruction_phrase p) (λ after. Done (traced p after)) (λ f. Done (faulted p f))
+
+-- a turn with no event, by mode
+abbrev pub turn_phrase : Mode → Proc → Phrase Proc
+turn_phrase Running p = running_phrase p
+turn_phrase Halted p = Done p
+turn_phrase Shutdown p = Done p
+
+-- One step. A shadow ends with the step that begins under it.
+-- Source: Intel 80386 PRM 9.2; the order: docs/DECISIONS.md, "One step"
+unfoldable pub step_phrase : Proc → Phrase Proc
+step_phrase p = if is_due p then Done (without_event p) else turn_phrase p.mode (record p { shadow = false })
+
+-- Judges cycles as one step from a state: Whole, Wants or Wrong.
+abbrev pub Follow : Proc → List Ask → Judgement Proc
+Follow p ts = follow (step_phrase p) ts

@@ -1,0 +1,90 @@
+//! The bytes of an instruction. No group is fetched twice in a step.
+ghost use Rattle.std.specs.Prelude.{◌≡◌, false, ◌+◌, ◌*◌, ◌%◌, ◌^◌};
+ghost use Rattle.m386_base.specs.Phrase.{Performs};
+ghost use Rattle.m386_step.specs.Fetch.{byte_phrase, byte_in, number_phrase, first_reader};
+
+use m386_base::ask::{Ask, Role, Space};
+use m386_base::bus::{Bus, cycle_or_fault};
+use m386_base::fault::Break;
+
+/// Where the next byte of the instruction stands, and the group that was fetched last in this step.
+#[derive(Clone, Copy, Debug, PartialEq, Eq)]
+pub struct Reader {
+    /// The offset in CS of the next byte.
+    pub at: u32,
+    /// Whether a group was fetched in this step.
+    pub fetched: bool,
+    /// The address of the group that was fetched last.
+    pub group: u32,
+    /// Its four bytes.
+    pub value: u32,
+}
+
+/// A reader that begins at an instruction.
+pub fn reader_at(eip: u32) -> Reader
+    ensures { result ≡ first_reader eip }
+{
+    Reader {
+        at: eip,
+        fetched: false,
+        group: 0,
+        value: 0,
+    }
+}
+
+/// Byte `at % 4` of a group.
+fn byte_at(value: u32, at: u32) -> u8
+    ensures { result ≡ byte_in value at }
+{
+    (value >> (8 * (at % 4)) & 0xff) as u8
+}
+
+/// The next byte. Its group is fetched where it isn't the one that was fetched last. Offsets go on at 0 past FFFFFFFFh.
+#[tactic(auto, using(m386_base::proofs::Phrases::calls), unfolding(crate::specs::Fetch::byte_phrase))]
+pub fn next_byte<B: Bus>(reader: &mut Reader, bus: &mut B) -> Result<u8, Break>
+    requires free { (B.view bus.old).kept ≡ false }
+    ensures cycles { Performs (byte_phrase reader.old) (B.view bus.old) (B.view bus.new) (λ byte. (byte, reader.new)) result }
+    ensures free { (B.view bus.new).kept ≡ false }
+{
+    let at = reader.at;
+    let group = at - at % 4;
+    if !reader.fetched || reader.group != group {
+        let value = cycle_or_fault(
+            bus,
+            Ask {
+                space: Space::Memory,
+                write: false,
+                joined: false,
+                role: Role::Fetch,
+                part: 0,
+                addr: group,
+                enables: 15,
+                value: 0,
+            },
+            false,
+        )?;
+        *reader = Reader {
+            at,
+            fetched: true,
+            group,
+            value,
+        };
+    }
+    let byte = byte_at(reader.value, at);
+    reader.at = at.wrapping_add(1);
+    Ok(byte)
+}
+
+/// The next four bytes as a little-endian number.
+#[tactic(auto, using(m386_base::proofs::Phrases::calls), unfolding(crate::specs::Fetch::number_phrase))]
+pub fn next_number<B: Bus>(reader: &mut Reader, bus: &mut B) -> Result<u32, Break>
+    requires free { (B.view bus.old).kept ≡ false }
+    ensures cycles { Performs (number_phrase reader.old) (B.view bus.old) (B.view bus.new) (λ n. (n, reader.new)) result }
+    ensures free { (B.view bus.new).kept ≡ false }
+{
+    let byte_0 = next_byte(reader, bus)?;
+    let byte_1 = next_byte(reader, bus)?;
+    let byte_2 = next_byte(reader, bus)?;
+    let byte_3 = next_byte(reader, bus)?;
+    Ok(u32::from_le_bytes([byte_0, byte_1, byte_2, byte_3]))
+}
