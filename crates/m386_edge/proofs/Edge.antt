@@ -1,7 +1,8 @@
 -- What several reads or writes, one after another, come to, and what makes one of them.
-use Rattle.std.proofs.Common.{◌≡◌, ℕ, ◌+◌, ◌<◌, ◌≤◌, min, List, [], ◌∷◌, ◌++◌, length, take, drop, Option, Some, None, refl, ap, sym, ◌∙◌, append_assoc, append-nil, take-append-drop, arith}
-use Rattle.std.proofs.lemmas.List.{nil_from_length, length-drop}
-use Rattle.m386_edge.specs.Edge.{given_back, grown, Reads, Writes}
+use Rattle.std.proofs.Common.{◌≡◌, ℕ, ◌+◌, ◌<◌, ◌≤◌, min, List, [], ◌++◌, length, take, drop, Option, Some, None, refl, ap, sym, ◌∙◌, append_assoc, append-nil, take-append-drop, arith, length-append}
+use Rattle.std.proofs.Math.Seq.{take-append-add}
+use Rattle.std.proofs.lemmas.List.{nil_from_length, take-append-le}
+use Rattle.m386_edge.specs.Edge.{given_back, grown, Grows, GrowsByFront, Reads, Writes}
 
 pub given_back-nil : (left : Option (List ℕ)) → given_back [] left ≡ left
 unfolding given_back
@@ -47,3 +48,28 @@ reads_told left rest room most buf n r m count same gone = record {
 pub writes_told : (held now piece : List ℕ) (n : ℕ) → 0 < n → n ≤ length piece → now ≡ held ++ take n piece → Writes (Some held) (Some now) piece n
 unfolding grown
 writes_told held now piece n some within same = record { some = some; within = within; grows = ap Some same }
+
+-- bytes that were taken, and then more
+pub grows_then : (first old new : Option (List ℕ)) (front back : List ℕ) → Grows first old front → Grows old new back → Grows first new (front ++ back)
+grows_then first old new front back before step = step ∙ ap (λ held. grown held back) before ∙ grown-twice first front back
+
+-- bytes that were taken, and then a front of more
+pub front_later : (first old new : Option (List ℕ)) (front back : List ℕ) → Grows first old front → GrowsByFront old new back → GrowsByFront first new (front ++ back)
+front_later first old new front back before step = record {
+  count = length front + step.count;
+  within = omega (arith, step.within, length-append front back);
+  grows = rw (take-append-add front back step.count) (grows_then first old new front (take step.count back) before step.grows);
+}
+
+-- a front of bytes behind which more were to come
+pub front_now : (old new : Option (List ℕ)) (front back : List ℕ) → GrowsByFront old new front → GrowsByFront old new (front ++ back)
+front_now old new front back step =
+    let within : step.count ≤ length front = step.within in
+    record {
+      count = step.count;
+      within = omega (arith, within, length-append front back);
+      grows = rw (take-append-le step.count front back within) step.grows;
+    }
+
+-- What writes of the whole come to, one after another.
+pub ruleset growing = (grows_then, front_later, front_now)

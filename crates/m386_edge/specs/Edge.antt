@@ -1,5 +1,10 @@
 -- What a read takes from a source and a write adds to a sink, where these tell their bytes.
-use Rattle.std.specs.Prelude.{◌≡◌, ℕ, ◌<◌, ◌≤◌, ◌↔◌, List, [], ◌++◌, Option, Some, None, IfSome, take, length}
+use Rattle.std.specs.Prelude.{◌≡◌, ℕ, ◌+◌, ◌-◌, ◌^◌, ◌<◌, ◌≤◌, ◌↔◌, min, List, [], ◌++◌, Option, Some, None, IfSome, take, length}
+
+-- A count after one more, which stands still at the last value of 64 bits.
+-- Own choice: docs/DECISIONS.md, "Sources, sinks and the gate"
+abbrev pub counted : ℕ → ℕ
+counted n = min (n + 1) (2 ^ 64 - 1)
 
 -- What a source had left before it gave these bytes.
 -- Own choice: docs/DECISIONS.md, "Sources, sinks and the gate"
@@ -42,3 +47,10 @@ pub record Writes (old new : Option (List ℕ)) (piece : List ℕ) (n : ℕ) : T
   pub some : 0 < n
   pub within : n ≤ length piece
   pub grows : Grows old new (take n piece)
+
+-- A sink took a front of these bytes, however short.
+-- Own choice: docs/DECISIONS.md, "Sources, sinks and the gate"
+pub record GrowsByFront (old new : Option (List ℕ)) (bytes : List ℕ) : Type 0 where
+  pub count : ℕ
+  pub within : count ≤ length bytes
+  pub grows : Grows old new (take count bytes)

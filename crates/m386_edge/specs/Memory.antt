@@ -1,12 +1,8 @@
 -- What one read of a source in memory and one write to a sink in memory do.
-use Rattle.std.specs.Prelude.{◌≡◌, ℕ, ◌+◌, ◌-◌, ◌^◌, ◌≤◌, min, Bool, true, false, ◌||◌, nat_le, ◌==◌, List, ◌++◌, length, take, drop, Result, Ok, Err}
+use Rattle.std.specs.Prelude.{◌≡◌, ℕ, ◌-◌, min, Bool, true, false, ◌||◌, nat_le, ◌==◌, List, ◌++◌, length, take, drop, Result, Ok, Err}
 use Rattle.std.specs.List.{list_any}
+use Rattle.m386_edge.specs.Edge.{counted}
 use Rattle.m386_edge.specs.declared.failed.Failed.{Failed}
-
--- A count after one more, which stands still at the last value of 64 bits.
--- Own choice: docs/DECISIONS.md, "Sources, sinks and the gate"
-abbrev pub counted : ℕ → ℕ
-counted n = min (n + 1) (2 ^ 64 - 1)
 
 -- The call with this number, counted from 1, is listed as one that fails.
 -- Own choice: docs/DECISIONS.md, "Sources, sinks and the gate"

@@ -1,6 +1,7 @@
 //! Which calls of a source or sink in memory fail.
 ghost use Rattle.std.specs.Prelude.{◌≡◌};
-ghost use Rattle.m386_edge.specs.Memory.{counted, is_listed};
+ghost use Rattle.m386_edge.specs.Edge.{counted};
+ghost use Rattle.m386_edge.specs.Memory.{is_listed};
 
 use crate::failed::Failed;
 
@@ -34,7 +35,9 @@ impl Failures {
     {
         self.calls = self.calls.saturating_add(1);
         let number = self.calls;
-        self.fail_at.iter().any(|&listed| u64::from(listed) == number)
+        self.fail_at
+            .iter()
+            .any(|&listed| u64::from(listed) == number)
     }
 
     /// Counts a call that fails.

@@ -35,7 +35,12 @@ impl Model for MemSink {
 impl MemSink {
     /// An empty sink that holds at most `room` bytes, takes at most `piece` of them in one write, and fails the writes
     /// whose numbers, counted from 1, stand in `fail_at`. All its room is taken here.
-    pub fn new(alloc: Global, piece: usize, room: usize, fail_at: Vec<u32>) -> Result<MemSink, NoMemory>
+    pub fn new(
+        alloc: Global,
+        piece: usize,
+        room: usize,
+        fail_at: Vec<u32>,
+    ) -> Result<MemSink, NoMemory>
         requires { 1 ≤ piece }
         ensures { IfOk result (λ s. s ≡ record { held = []; piece = piece; room = room; fail_at = fail_at.items; writes = 0; faults = 0 }) }
     {

@@ -40,7 +40,11 @@ impl From<Failed> for ReadEnd {
 
 /// Everything that a source has left, unless that is more than `limit` bytes. Of a longer source it takes `limit` + 1
 /// bytes and no more. Whatever it answers, it took at most so many, and what it took before an `Err` is dropped.
-pub fn read_whole<S: Source>(alloc: Global, source: &mut S, limit: usize) -> Result<Vec<u8>, ReadEnd>
+pub fn read_whole<S: Source>(
+    alloc: Global,
+    source: &mut S,
+    limit: usize,
+) -> Result<Vec<u8>, ReadEnd>
     ensures ok { IfOk result (λ bytes. (length bytes.items ≤ limit) × Gave (S.left source.old) (S.left source.new) bytes.items × IsEmptied (S.left source.new)) }
     ensures err { OnErr result ((bytes : List ℕ) × (length bytes ≤ limit + 1) × Gave (S.left source.old) (S.left source.new) bytes) }
     ensures too_long { result ≡ Err ReadEnd.TooLong → (bytes : List ℕ) × (length bytes ≡ limit + 1) × Gave (S.left source.old) (S.left source.new) bytes }
@@ -52,6 +56,7 @@ pub fn read_whole<S: Source>(alloc: Global, source: &mut S, limit: usize) -> Res
     let mut bytes = Vec::new(alloc);
     let mut buf = [0; 4096];
     while bytes.len() <= limit {
+        // One byte past the limit is enough to know that the source is too long.
         let room = (limit - bytes.len()).min(buf.len() - 1) + 1;
         let count = source.read(&mut buf[..room])?;
         if count == 0 {

@@ -1,5 +1,8 @@
 //! A sink over a writer of the standard library.
-ghost use Rattle.std.specs.Prelude.{◌≡◌, None};
+ghost use Rattle.std.specs.Prelude.{◌≡◌, ◌<◌, ◌≤◌, None, IfOk, OnErr, if◌then◌else◌, is_ok, length};
+ghost use Rattle.std.specs.Io.KnownBytes.{WriteAppends};
+ghost use Rattle.m386_base.specs.Bus.{Rose};
+ghost use Rattle.m386_edge.specs.Edge.{Writes, counted};
 
 use crate::failed::Failed;
 use crate::sink::Sink;
@@ -29,7 +32,14 @@ impl<W: Write> Sink for StdSink<W> {
     ghost faults = { λ s. s.faults };
 
     #[tactic(auto, using(crate::proofs::Edge::writes_untold))]
-    fn write(&mut self, piece: &[u8]) -> Result<usize, Failed> {
+    fn write(&mut self, piece: &[u8]) -> Result<usize, Failed>
+        requires { 0 < length piece.now }
+        ensures wrote { IfOk result (λ n. Writes None None piece.now n) }
+        ensures failed { OnErr result (Rose self.old.faults self.new.faults) }
+        ensures never_falls { self.old.faults ≤ self.new.faults }
+        ensures counts { self.new.faults ≡ (if is_ok result then self.old.faults else counted self.old.faults) }
+        ensures passes_on { WriteAppends (W.contents self.old.inner) (W.contents self.new.inner) result piece.now }
+    {
         match self.inner.write(piece) {
             Ok(count) if count > 0 => Ok(count),
             _ => {

@@ -1,7 +1,7 @@
 //! Writes that end only when all bytes are taken.
-ghost use Rattle.std.specs.Prelude.{◌≤◌, ℕ, OnOk, OnErr, length, take};
+ghost use Rattle.std.specs.Prelude.{◌≤◌, OnOk, OnErr};
 ghost use Rattle.m386_base.specs.Bus.{Rose};
-ghost use Rattle.m386_edge.specs.Edge.{Grows};
+ghost use Rattle.m386_edge.specs.Edge.{Grows, GrowsByFront};
 
 use crate::failed::Failed;
 use crate::sink::Sink;
@@ -10,7 +10,7 @@ use crate::sink::Sink;
 #[tactic(auto, using(crate::proofs::Whole::grows_more))]
 pub fn write_whole<K: Sink>(out: &mut K, bytes: &[u8]) -> Result<(), Failed>
     ensures ok { OnOk result (Grows (K.held out.old) (K.held out.new) bytes.now) }
-    ensures err { OnErr result ((n : ℕ) × (n ≤ length bytes.now) × Grows (K.held out.old) (K.held out.new) (take n bytes.now)) }
+    ensures err { OnErr result (GrowsByFront (K.held out.old) (K.held out.new) bytes.now) }
     ensures failed { OnErr result (Rose (K.faults out.old) (K.faults out.new)) }
     ensures never_falls { K.faults out.old ≤ K.faults out.new }
 {

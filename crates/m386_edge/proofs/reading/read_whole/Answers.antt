@@ -1,5 +1,5 @@
-use Rattle.std.proofs.Common.{◌≡◌, ◌+◌, ◌≤◌, length, take, drop, ◌++◌, sym, ◌∙◌, ap, arith, rules, length-append, length-take}
-use Rattle.std.proofs.lemmas.List.{take-append-le, length-take-le}
+use Rattle.std.proofs.Common.{◌+◌, ◌≤◌, length, take, ◌++◌, sym, arith, rules, length-append, length-take}
+use Rattle.std.proofs.lemmas.List.{take-append-le}
 use Rattle.std.proofs.lemmas.Result.{err_from_is_err_and}
 use Rattle.m386_edge.proofs.Edge.{given_back-nil}
 use Rattle.m386_edge.proofs.Whole.{gave_more, gave_end, emptied_end, gave_length, gave_all}

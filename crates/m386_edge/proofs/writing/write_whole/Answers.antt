@@ -1,4 +1,4 @@
-use Rattle.std.proofs.Common.{[], sym, arith, rules}
+use Rattle.std.proofs.Common.{sym, arith, rules}
 use Rattle.m386_edge.proofs.Edge.{grown-nil}
 use Rattle.m386_edge.proofs.Whole.{grows_more}
 use Rattle.m386_edge.proofs.writing.write_whole.Goals as goal

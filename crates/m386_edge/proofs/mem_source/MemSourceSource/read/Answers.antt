@@ -1,4 +1,4 @@
-use Rattle.std.proofs.Common.{◌≡◌, ◌-◌, length, take, drop, sym, arith}
+use Rattle.std.proofs.Common.{sym, arith}
 use Rattle.std.proofs.lemmas.List.{take_rest, drop-drop}
 use Rattle.m386_edge.proofs.Edge.{reads_told}
 use Rattle.m386_edge.proofs.mem_source.MemSourceSource.read.Goals as goal

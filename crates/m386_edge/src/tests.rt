@@ -1,0 +1,118 @@
+//! What the sources and sinks give and take, and what the loops make of them.
+use crate::failed::Failed;
+use crate::gate::{Gate, OpenGate};
+use crate::mem_sink::MemSink;
+use crate::mem_source::MemSource;
+use crate::reading::{ReadEnd, read_whole};
+use crate::sink::Sink;
+use crate::source::Source;
+use crate::std_sink::StdSink;
+use crate::std_source::StdSource;
+use crate::writing::write_whole;
+use std::test::Fail;
+
+#[test]
+fn open_gate_lets_pass() {
+    OpenGate.pass(0, 0);
+}
+
+#[test]
+fn source_gives_pieces_and_fails_where_told(rt: HostRuntime) -> Result<(), Fail> {
+    let bytes = b"abcde".to_vec(rt.alloc())?;
+    let fail_at = [2, 2, 9].to_vec(rt.alloc())?;
+    let mut source = MemSource::new(bytes, 2, fail_at);
+    let mut seen = Vec::new(rt.alloc());
+    for want in [Ok(2), Err(Failed), Ok(2), Ok(1), Ok(0), Ok(0)] {
+        let mut buf = [0; 3];
+        let got = source.read(&mut buf);
+        assert_eq!(rt; got, want);
+        if let Ok(count) = got {
+            seen.extend_from_slice(&buf[..count])?;
+        }
+    }
+    assert_eq!(rt; seen.as_slice(), b"abcde".as_slice());
+    Ok(())
+}
+
+#[test]
+fn sink_takes_pieces_until_it_is_full(rt: HostRuntime) -> Result<(), Fail> {
+    let fail_at = [2].to_vec(rt.alloc())?;
+    let mut sink = MemSink::new(rt.alloc(), 2, 5, fail_at)?;
+    for want in [Ok(2), Err(Failed), Ok(2), Ok(1), Err(Failed), Err(Failed)] {
+        assert_eq!(rt; sink.write(b"xyz"), want);
+    }
+    assert_eq!(rt; sink.bytes(), b"xyxyx".as_slice());
+    Ok(())
+}
+
+#[test]
+fn whole_is_written_up_to_the_failure(rt: HostRuntime) -> Result<(), Fail> {
+    let cases = [
+        (0, Ok(()), 7),
+        (1, Err(Failed), 0),
+        (3, Err(Failed), 4),
+        (5, Ok(()), 7),
+    ];
+    for (fails, want, held) in cases {
+        let fail_at = [fails].to_vec(rt.alloc())?;
+        let mut sink = MemSink::new(rt.alloc(), 2, 7, fail_at)?;
+        assert_eq!(rt;
+            write_whole(&mut sink, b"abcdefg"),
+            want,
+            "where write {fails} fails"
+        );
+        assert_eq!(rt; sink.bytes().len(), held);
+    }
+    Ok(())
+}
+
+#[test]
+fn whole_is_read_up_to_the_limit(rt: HostRuntime) -> Result<(), Fail> {
+    // How many bytes there are, the limit, the read that fails, and what comes of it.
+    let cases = [
+        (0, 0, 9, Ok(0)),
+        (7, 7, 9, Ok(7)),
+        (7, 6, 9, Err(ReadEnd::TooLong)),
+        (7, 7, 2, Err(ReadEnd::Failed)),
+        (7, 6, 4, Err(ReadEnd::TooLong)),
+        (9000, 9000, 99, Err(ReadEnd::Failed)),
+        (9000, 8999, 9999, Err(ReadEnd::TooLong)),
+        (9000, 10000, 9999, Ok(9000)),
+    ];
+    for (len, limit, fails, want) in cases {
+        let bytes = vec![in rt.alloc(); 7u8; len]?;
+        let fail_at = [fails].to_vec(rt.alloc())?;
+        let mut source = MemSource::new(bytes, 3, fail_at);
+        let got = read_whole(rt.alloc(), &mut source, limit);
+        assert_eq!(rt;
+            got.map(|bytes| bytes.len()),
+            want,
+            "{len} bytes, at most {limit}"
+        );
+    }
+    Ok(())
+}
+
+#[test]
+fn std_adapters_move_the_bytes(rt: HostRuntime) -> Result<(), Fail> {
+    let mut input: &[u8] = b"some input";
+    let bytes = read_whole(rt.alloc(), &mut StdSource::new(&mut input), 10);
+    let Ok(bytes) = bytes else {
+        return Err(Fail::new("not read"));
+    };
+    assert_eq!(rt; bytes.as_slice(), b"some input".as_slice());
+    let mut output = Vec::new(rt.alloc());
+    assert_eq!(rt; write_whole(&mut StdSink::new(&mut output), &bytes), Ok(()));
+    assert_eq!(rt; output.as_slice(), b"some input".as_slice());
+    Ok(())
+}
+
+#[test]
+fn std_adapters_count_what_fails(rt: HostRuntime) -> Result<(), Fail> {
+    let mut small = [0; 4];
+    let mut room: &mut [u8] = &mut small;
+    let mut sink = StdSink::new(&mut room);
+    assert_eq!(rt; sink.write(b"abcdef"), Ok(4));
+    assert_eq!(rt; sink.write(b"ef"), Err(Failed));
+    Ok(())
+}
