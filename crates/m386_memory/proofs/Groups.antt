@@ -125,3 +125,13 @@ pub put_all : (xs x3 x2 x1 x0 : List ℕ) (a : Ask) → x3 ≡ with_bytes xs (by
 unfolding bytes_of
 put_all xs x3 x2 x1 x0 a p q r s =
     rw (with_bytes-append xs (byte_of a 0 ++ byte_of a 1 ++ byte_of a 2) (byte_of a 3), with_bytes-append _ (byte_of a 0 ++ byte_of a 1) (byte_of a 2), with_bytes-append _ (byte_of a 0) (byte_of a 1), ← p, ← q, ← r) s
+
+nought : (p : Bool) → cond {A = ℕ} p 0 0 ≡ 0
+nought true = refl
+nought false = refl
+
+-- a group where each byte is 0
+pub group_of-zeros : (addr enables : ℕ) → 0 ≡ group_of (λ a. 0) addr enables
+unfolding group_of
+group_of-zeros addr enables =
+    rw (nought (off enables 0), nought (off enables 1), nought (off enables 2), nought (off enables 3)) refl

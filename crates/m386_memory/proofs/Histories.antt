@@ -1,12 +1,14 @@
 -- How a history grows by one cycle, and what its fronts keep.
-use Rattle.std.proofs.Common.{◌≡◌, ◌≢◌, ℕ, ◌+◌, Bool, true, false, cond, eqb, List, [], ◌∷◌, ◌++◌, map, filter, Some, refl, sym, ◌∙◌, ap, arith, append-nil, eq-eqb}
+use Rattle.std.proofs.Common.{◌≡◌, ◌≢◌, ℕ, ◌+◌, Bool, true, false, cond, eqb, List, [], ◌∷◌, ◌++◌, map, filter, Some, refl, sym, ◌∙◌, ap, arith, append-nil, eq-eqb, ◌&&◌}
+use Rattle.std.specs.Option.{unwrap_or}
 use Rattle.std.proofs.lemmas.List.{reverse-append}
 use Rattle.m386_base.specs.declared.ask.Ask.{Ask}
 use Rattle.m386_base.specs.declared.ask.Cycle.{Cycle}
 use Rattle.m386_base.specs.declared.ask.Space.{Space}
 use Rattle.m386_base.specs.Bus.{IsAsk, IsEnabled, cycle_of}
-use Rattle.m386_base.specs.Bytes.{bytes_of}
-use Rattle.m386_memory.specs.Contents.{Contents, byte_in, group_of, Stand, SameSize, written}
+use Rattle.m386_base.specs.Bytes.{bytes_of, byte_at_place}
+use Rattle.m386_base.specs.Phrase.{space_number}
+use Rattle.m386_memory.specs.Contents.{Contents, byte_in, is_inside, group_of, Stand, SameSize, written}
 use Rattle.m386_memory.specs.History.{past, byte_then, byte_after, Consistent, last_cpu, Unsplit, WellFormed, IsHistory, IsRecord, cycles_of}
 use Rattle.m386_memory.proofs.Places.{byte_in-written, SameSize-written, is_inside-same}
 
@@ -136,3 +138,23 @@ cycles_of-other p H x e = cycles_of-append p H (x ∷ []) ∙ ap (λ l. cycles_o
     go : (b : Bool) → eqb x.cpu p ≡ b → map (λ (c : Cycle). c.ask) (cond b (x ∷ []) []) ≡ []
     go true h = absurd (e (grind (arith, h)))
     go false h = refl
+
+-- what stands at a place, one cycle on
+pub byte_after-push : (c : Contents) (H : List Cycle) (x : Cycle) (s : Space) (a : ℕ) → byte_after c (past (H ++ x ∷ [])) s a ≡ byte_then c x s a (byte_after c (past H) s a)
+unfolding byte_after
+byte_after-push c H x s a = rw (past-push H x) refl
+
+-- a read changes no byte
+pub byte_after-read : (c : Contents) (H : List Cycle) (x : Cycle) (s : Space) (a : ℕ) → x.ask.write ≡ false → byte_after c (past (H ++ x ∷ [])) s a ≡ byte_after c (past H) s a
+byte_after-read c H x s a w = byte_after-push c H x s a ∙ go x.ask.write w
+  where
+    go : (b : Bool) → b ≡ false → cond ((b && eqb (space_number x.ask.space) (space_number s)) && is_inside c s a) (unwrap_or (byte_at_place (bytes_of x.ask) a) (byte_after c (past H) s a)) (byte_after c (past H) s a) ≡ byte_after c (past H) s a
+    go true h = cc
+    go false h = refl
+
+-- the newest cycle's processor, one cycle on
+pub last_cpu-push : (H : List Cycle) (x : Cycle) → last_cpu (past (H ++ x ∷ [])) ≡ Some x.cpu
+last_cpu-push H x = rw (past-push H x) refl
+
+-- how a history and its parts by processor grow at the end
+pub ruleset grown = (past-push, last_cpu-push, cycles_of-own, cycles_of-other)

@@ -1,5 +1,5 @@
 -- The bytes of memory and of the ports, and the groups of four that a cycle reads and writes.
-use Rattle.std.specs.Prelude.{ℕ, ◌≡◌, ◌≤◌, ◌+◌, ◌*◌, ◌%◌, ◌^◌, ◌==◌, Bool, false, List, [], ◌∷◌, length, slice_index_or, slice_set, nat_lt, bit_and, replicate, if◌then◌else◌}
+use Rattle.std.specs.Prelude.{ℕ, ◌≡◌, ◌≤◌, ◌+◌, ◌*◌, ◌%◌, ◌^◌, ◌==◌, Bool, false, List, [], ◌∷◌, length, take, drop, ◌++◌, slice_index_or, slice_set, nat_lt, bit_and, replicate, if◌then◌else◌}
 use Rattle.m386_base.specs.declared.ask.Space.{Space}
 use Rattle.m386_base.specs.declared.ask.Space.TheVariants.{Memory, Port}
 use Rattle.m386_base.specs.declared.ask.Role.TheVariants as roles
@@ -73,6 +73,10 @@ Stand byte (b ∷ bs) = (byte b.0 ≡ b.1) × Stand byte bs
 abbrev pub with_bytes : List ℕ → List (ℕ × ℕ) → List ℕ
 with_bytes xs [] = xs
 with_bytes xs (b ∷ bs) = slice_set (with_bytes xs bs) b.0 b.1
+
+-- a list after these items were put in from a place on
+abbrev pub filled : List ℕ → ℕ → List ℕ → List ℕ
+filled xs at ys = take at xs ++ ys ++ drop (at + length ys) xs
 
 -- the contents after these bytes were written in one space
 abbrev pub written : Contents → Space → List (ℕ × ℕ) → Contents

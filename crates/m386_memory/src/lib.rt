@@ -2,6 +2,7 @@
 #![tactic(auto)]
 
 pub mod ended;
+pub mod fixed;
 mod group;
 pub mod history;
 pub mod store;

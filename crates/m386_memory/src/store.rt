@@ -1,7 +1,7 @@
 //! The bytes of memory and of the ports, all of them kept.
 ghost use Rattle.std.specs.Prelude.{◌≡◌, ◌≤◌, ◌+◌, ◌%◌, ◌++◌, IfOk, length, take, drop};
 ghost use Rattle.m386_base.specs.Bus.{IsEnabled};
-ghost use Rattle.m386_memory.specs.Contents.{IsSized, zeros, byte_in, group_in, group_bytes, written, Stand};
+ghost use Rattle.m386_memory.specs.Contents.{IsSized, zeros, filled, byte_in, group_in, group_bytes, written, Stand};
 
 use crate::group;
 use m386_base::ask::Space;
@@ -62,8 +62,7 @@ impl Store {
     /// Puts bytes at an address of memory and on. They all lie in memory.
     pub fn fill(&mut self, addr: u32, bytes: &[u8])
         requires { addr + length bytes.now ≤ length self.old.memory }
-        ensures { self.new
-            ≡ record self.old { memory = take addr self.old.memory ++ bytes.now ++ drop (addr + length bytes.now) self.old.memory } }
+        ensures { self.new ≡ record self.old { memory = filled self.old.memory addr bytes.now } }
     {
         let at = addr as usize;
         self.memory[at..at + bytes.len()].copy_from_slice(bytes);

@@ -3,9 +3,12 @@ ghost use Rattle.std.specs.Prelude.{◌≡◌, false};
 ghost use Rattle.m386_base.specs.declared.ask.Role.TheVariants as roles;
 
 use crate::ended::{Ended, ProcEnd};
+use crate::fixed::FixedBus;
 use crate::history::Record;
 use crate::store::Store;
 use m386_base::ask::{Ask, Cycle, Role, Space};
+use m386_base::bus::Bus;
+use m386_base::fault::Stop;
 use m386_base::list::List;
 use std::test::Fail;
 
@@ -99,4 +102,48 @@ fn past_memory_all_is_ones(rt: HostRuntime) -> Result<(), Fail> {
         0xff00_0000
     );
     Ok(())
+}
+
+#[test]
+fn few_bytes_are_poked_and_read(rt: HostRuntime) -> Result<(), Fail> {
+    let mut bus = FixedBus::<6>::new();
+    bus.poke(5, 7);
+    assert_eq!(rt;
+        bus.cycle(plain(Space::Memory, false, 4, 15, 0), false),
+        Ok(0xffff_0700)
+    );
+    assert_eq!(rt;
+        bus.cycle(plain(Space::Memory, true, 4, 15, 0x0403_0201), false),
+        Ok(0)
+    );
+    assert_eq!(rt;
+        bus.cycle(plain(Space::Memory, false, 4, 15, 0), false),
+        Ok(0xffff_0201)
+    );
+    assert_eq!(rt; bus.cycle(plain(Space::Port, false, 4, 1, 0), false), Ok(0));
+    assert_eq!(rt; bus.cycles().len(), 4);
+    bus.clear();
+    assert_eq!(rt; bus.cycles().len(), 0);
+    assert_eq!(rt;
+        bus.cycle(plain(Space::Memory, false, 4, 1, 0), false),
+        Ok(1)
+    );
+    Ok(())
+}
+
+#[test]
+fn a_fixed_bus_pauses_at_192_cycles(rt: HostRuntime) {
+    let mut bus = FixedBus::<4>::new();
+    for count in 0..192 {
+        assert_eq!(rt;
+            bus.cycle(plain(Space::Memory, false, 0, 1, 0), false),
+            Ok(0),
+            "cycle {count}"
+        );
+    }
+    assert_eq!(rt;
+        bus.cycle(plain(Space::Memory, false, 0, 1, 0), false),
+        Err(Stop::Paused)
+    );
+    assert_eq!(rt; bus.cycles().len(), 192);
 }
