@@ -1,0 +1,5 @@
+//! The image file: what a machine begins with, read from bytes and written as bytes.
+#![tactic(auto)]
+
+pub mod fault;
+pub mod image;
