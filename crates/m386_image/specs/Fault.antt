@@ -1,7 +1,10 @@
--- The faults of an image file by number and by name.
-use Rattle.std.specs.Prelude.{ℕ, List, codes}
+-- The faults of an image file: their numbers and names, and when each stands.
+use Rattle.std.specs.Prelude.{◌≡◌, ◌≢◌, ℕ, ◌<◌, List, [], length, take, codes}
 use Rattle.m386_image.specs.declared.fault.ImageFault.{ImageFault}
-use Rattle.m386_image.specs.declared.fault.ImageFault.TheVariants.{ShortHeader, Magic, Version, MemorySize, Processors, Flags, Truncated, PlanOrder, Section, Trailing}
+use Rattle.m386_image.specs.declared.fault.ImageFault.TheVariants.{ShortHeader, Magic, Version, MemorySize, Processors, Flags, Truncated, PlanOrder, Trailing}
+use Rattle.m386_image.specs.declared.fault.ImageFault.TheVariants as faults
+use Rattle.m386_image.specs.declared.image.Section.{Section}
+use Rattle.m386_image.specs.Format.{version_of, cpus_of, flags_of, memory_of, plan_count, IsMemorySize, IsCpuCount, HasSections, ArePlaced}
 
 -- A fault's number. Of faults that stand together the one with the least number is told.
 -- Own choice: docs/DECISIONS.md, "The image file"
@@ -14,7 +17,7 @@ fault_number Processors = 5
 fault_number Flags = 6
 fault_number Truncated = 7
 fault_number PlanOrder = 8
-fault_number Section = 9
+fault_number faults.Section = 9
 fault_number Trailing = 10
 
 -- A fault's name.
@@ -28,5 +31,30 @@ fault_name Processors = codes "Processors"
 fault_name Flags = codes "Flags"
 fault_name Truncated = codes "Truncated"
 fault_name PlanOrder = codes "PlanOrder"
-fault_name Section = codes "Section"
+fault_name faults.Section = codes "Section"
 fault_name Trailing = codes "Trailing"
+
+-- When a fault stands. Until a processor can start in a task Flags stands for every bit, and until plans are built
+-- PlanOrder stands for every entry.
+-- Own choice: docs/DECISIONS.md, "The image file"
+abbrev pub Stands : List ℕ → ImageFault → Type 0
+Stands bytes ShortHeader = length bytes < 64
+Stands bytes Magic = take 4 bytes ≢ codes "M386"
+Stands bytes Version = version_of bytes ≢ 1
+Stands bytes MemorySize = ¬ IsMemorySize (memory_of bytes)
+Stands bytes Processors = ¬ IsCpuCount (cpus_of bytes)
+Stands bytes Flags = flags_of bytes ≢ 0
+Stands bytes Truncated = (ss : List Section) (rest : List ℕ) → ¬ HasSections bytes ss rest
+Stands bytes PlanOrder = 0 < plan_count bytes
+Stands bytes faults.Section = (ss : List Section) × (rest : List ℕ) × HasSections bytes ss rest × ¬ ArePlaced 0 (memory_of bytes) ss
+Stands bytes Trailing = (ss : List Section) × (rest : List ℕ) × HasSections bytes ss rest × (rest ≢ [])
+
+-- no fault with a number below n stands
+abbrev pub NoneBelow : ℕ → List ℕ → Type 0
+NoneBelow n bytes = (f : ImageFault) → fault_number f < n → ¬ Stands bytes f
+
+-- The fault that is told: it stands, and none with a smaller number does.
+-- Own choice: docs/DECISIONS.md, "The image file"
+pub record FirstFault (bytes : List ℕ) (f : ImageFault) : Type 0 where
+  pub stands : Stands bytes f
+  pub none_before : NoneBelow (fault_number f) bytes

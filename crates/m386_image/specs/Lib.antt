@@ -1,1 +1,4 @@
 pub mod Fault
+pub mod Format
+pub mod Laws
+pub mod Memory
