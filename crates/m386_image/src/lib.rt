@@ -4,3 +4,4 @@
 pub mod fault;
 pub mod image;
 mod number;
+mod section;
