@@ -1,5 +1,5 @@
 -- Sections at the front of bytes.
-use Rattle.std.proofs.Common.{◌≡◌, ℕ, zero, suc, ◌+◌, ◌-◌, ◌^◌, ◌<◌, ◌≤◌, List, [], ◌∷◌, ◌++◌, length, take, drop, refl, sym, ap, subst, ◌∙◌, append_assoc, arith, ◌⊎◌, inl, inr, Bool, true}
+use Rattle.std.proofs.Common.{◌≡◌, ℕ, zero, suc, ◌+◌, ◌-◌, ◌<◌, ◌≤◌, List, [], ◌∷◌, ◌++◌, length, take, drop, refl, sym, ap, subst, ◌∙◌, append_assoc, arith, Bool, true}
 use Rattle.std.specs.Prelude.{◌↔◌, IsTrue}
 use Rattle.std.specs.List.{flat_map, AllByRecursion}
 use Rattle.std.proofs.lemmas.List.{append-nil, take_at, drop_at, drop-drop, take-append-drop, length-append, length-take, length-drop}
@@ -179,6 +179,7 @@ walked_more i bytes memory rest placed end s after now w t is = record {
   takes = takes_more i bytes w.sections rest s after w.takes t;
   placed_is = (
     λ h. let all = is.0 h in placed_more 0 memory w.sections s (w.placed_is.0 all.0) (subst (λ (e : ℕ). e ≤ s.addr) w.end_is all.1) all.2,
-    λ h. let all = placed_less 0 memory w.sections s h in is.1 (w.placed_is.1 all.0, subst (λ (e : ℕ). e ≤ s.addr) (sym w.end_is) all.1, all.2));
+    λ h. let all = placed_less 0 memory w.sections s h in is.1 (w.placed_is.1 all.0, subst (λ (e : ℕ). e ≤ s.addr) (sym w.end_is) all.1, all.2),
+  );
   end_is = sym (end_of-push 0 w.sections s);
 }

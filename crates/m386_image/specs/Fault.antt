@@ -1,5 +1,5 @@
 -- The faults of an image file: their numbers and names, and when each stands.
-use Rattle.std.specs.Prelude.{◌≡◌, ◌≢◌, ℕ, ◌<◌, List, [], length, take, codes}
+use Rattle.std.specs.Prelude.{◌≢◌, ℕ, ◌<◌, List, [], length, take, codes}
 use Rattle.m386_image.specs.declared.fault.ImageFault.{ImageFault}
 use Rattle.m386_image.specs.declared.fault.ImageFault.TheVariants.{ShortHeader, Magic, Version, MemorySize, Processors, Flags, Truncated, PlanOrder, Trailing}
 use Rattle.m386_image.specs.declared.fault.ImageFault.TheVariants as faults

@@ -116,14 +116,21 @@ ArePlaced place memory (s ∷ ss) = (place ≤ s.addr) × (s.addr + length s.byt
 
 -- ---- the image
 
--- The image that these bytes are. Until a processor can start in a task no flag is set, and until plans are built the
--- plan is empty.
+-- The header of an image. Until a processor can start in a task no flag is set.
+-- Own choice: docs/DECISIONS.md, "The image file"
+pub record HasHeader (bytes : List ℕ) : Type 0 where
+  pub long : 64 ≤ length bytes
+  pub magic : take 4 bytes ≡ codes "M386"
+  pub version : version_of bytes ≡ 1
+  pub memory : IsMemorySize (memory_of bytes)
+  pub cpus : IsCpuCount (cpus_of bytes)
+  pub flags : flags_of bytes ≡ 0
+
+-- The image that these bytes are. Until plans are built the plan is empty.
 -- Own choice: docs/DECISIONS.md, "The image file"
 pub record ImageOf (bytes : List ℕ) (image : Image) : Type 0 where
   pub are_bytes : AreBytes bytes
-  pub header : 64 ≤ length bytes
-  pub magic : take 4 bytes ≡ codes "M386"
-  pub version : version_of bytes ≡ 1
+  pub header : HasHeader bytes
   pub memory : image.memory ≡ memory_of bytes
   pub cpus : image.cpus ≡ cpus_of bytes
   pub flags : image.flags ≡ flags_of bytes
@@ -131,11 +138,8 @@ pub record ImageOf (bytes : List ℕ) (image : Image) : Type 0 where
   pub idt : image.idt ≡ idt_of bytes
   pub starts : image.starts ≡ starts_of bytes
   pub planned : length image.plan ≡ plan_count bytes
-  pub sections : HasSections bytes image.sections []
-  pub memory_size : IsMemorySize image.memory
-  pub cpu_count : IsCpuCount image.cpus
-  pub no_flags : image.flags ≡ 0
   pub no_plan : image.plan ≡ []
+  pub sections : HasSections bytes image.sections []
   pub placed : ArePlaced 0 image.memory image.sections
 
 -- An image that some bytes are.

@@ -1,7 +1,7 @@
 //! Why bytes are no image.
 ghost use Rattle.std.specs.Prelude.{◌≡◌};
 ghost use Rattle.m386_image.specs.Fault.{fault_number, fault_name};
-ghost use Rattle.m386_image.specs.declared.fault.ReadStop.TheVariants.{Memory};
+ghost use Rattle.m386_image.specs.declared.fault.ReadStop.TheVariants.{Memory, Bad};
 
 use m386_base::fault::NoMemory;
 
@@ -64,6 +64,14 @@ pub enum ReadStop {
     Memory,
     /// The bytes are no image, and this is the first fault.
     Bad(ImageFault),
+}
+
+impl From<ImageFault> for ReadStop {
+    ghost from_gives = { λ fault stop. stop ≡ Bad fault };
+
+    fn from(fault: ImageFault) -> Self {
+        ReadStop::Bad(fault)
+    }
 }
 
 impl From<NoMemory> for ReadStop {

@@ -4,4 +4,5 @@
 pub mod fault;
 pub mod image;
 mod number;
+pub mod reading;
 mod section;

@@ -11,4 +11,4 @@ returns-then-body-len-clause-none c _ s rest t = let h = takes_front c.args.byte
 pub returns-clause-some : goal.returns-clause-some
 returns-clause-some c =
     parts_take c.args.bytes.now c.read_u32.result c.read_u32-len.result c.split_at.result.1.now c.split_at-2.result.0.now c.split_at-2.result.1.now (λ i. omega (arith, c.type_inv.bytes i)) (omega arith)
-        c.read_u32.ensures c.read_u32-len.ensures c.split_at.ensures.back (omega arith) c.split_at-2.ensures.front c.split_at-2.ensures.back
+    c.read_u32.ensures c.read_u32-len.ensures c.split_at.ensures.back (omega arith) c.split_at-2.ensures.front c.split_at-2.ensures.back

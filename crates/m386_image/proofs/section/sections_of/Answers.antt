@@ -1,5 +1,4 @@
-use Rattle.std.proofs.Common.{refl, subst}
-use Rattle.m386_image.specs.Format.{Takes}
+use Rattle.std.proofs.Common.{refl}
 use Rattle.m386_image.proofs.Sections.{takes_next}
 use Rattle.m386_image.proofs.section.sections_of.Goals as goal
 

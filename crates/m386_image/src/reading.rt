@@ -1,0 +1,145 @@
+//! An image from bytes.
+ghost use Rattle.std.specs.Prelude.{◌≡◌, ◌↔◌, ◌⊎◌, ◌<◌, ◌≤◌, length, Result, Ok, Err, IsTrue, IfOk, MatchResult};
+ghost use Rattle.m386_image.specs.Fault.{FirstFault};
+ghost use Rattle.m386_image.specs.Format.{IsMemorySize, HasHeader, ImageOf, plan_end, starts_of, start_of};
+ghost use Rattle.m386_image.specs.declared.fault.ImageFault.{ImageFault};
+ghost use Rattle.m386_image.specs.declared.fault.ReadStop.TheVariants.{Memory, Bad};
+ghost use Rattle.m386_image.specs.declared.image.Image.{Image};
+
+use crate::fault::{ImageFault, ReadStop};
+use crate::image::{Image, TableAt};
+use crate::number::{read_u16, read_u32};
+use crate::section::{sections_of, walk_sections};
+use m386_base::fault::NoMemory;
+use m386_base::list::List;
+use std::alloc::Global;
+
+/// How many bytes the header has.
+const HEADER: usize = 64;
+
+/// Whether a machine may have so much memory.
+fn is_memory_size(bytes: u32) -> bool
+    ensures { IsTrue result ↔ IsMemorySize bytes }
+{
+    (4_096..=16_777_216).contains(&bytes) && bytes % 4_096 == 0
+}
+
+/// The faults of the header.
+fn check_header(bytes: &[u8]) -> Result<(), ImageFault>
+    ensures { MatchResult result (λ _. HasHeader bytes.now) (FirstFault bytes.now) }
+{
+    if bytes.len() < HEADER {
+        return Err(ImageFault::ShortHeader);
+    }
+    if &bytes[..4] != b"M386".as_slice() {
+        return Err(ImageFault::Magic);
+    }
+    if read_u16(bytes, 4) != 1 {
+        return Err(ImageFault::Version);
+    }
+    if !is_memory_size(read_u32(bytes, 8)) {
+        return Err(ImageFault::MemorySize);
+    }
+    if bytes[6] == 0 || bytes[6] > 8 {
+        return Err(ImageFault::Processors);
+    }
+    if bytes[7] != 0 {
+        return Err(ImageFault::Flags);
+    }
+    Ok(())
+}
+
+/// The place behind the plan.
+fn plan_end_of(bytes: &[u8]) -> usize
+    requires { HasHeader bytes.now }
+    ensures { result ≡ plan_end bytes.now }
+{
+    HEADER + 8 * read_u32(bytes, 24) as usize
+}
+
+/// The faults of what follows the header.
+fn check_body(bytes: &[u8]) -> Result<(), ImageFault>
+    requires { HasHeader bytes.now }
+    ensures { MatchResult result (λ _. (image : Image) × ImageOf bytes.now image) (FirstFault bytes.now) }
+{
+    let at = plan_end_of(bytes);
+    if bytes.len() < at {
+        return Err(ImageFault::Truncated);
+    }
+    let Some(walk) = walk_sections(&bytes[at..], read_u32(bytes, 28), read_u32(bytes, 8)) else {
+        return Err(ImageFault::Truncated);
+    };
+    if at > HEADER {
+        return Err(ImageFault::PlanOrder);
+    }
+    if !walk.placed {
+        return Err(ImageFault::Section);
+    }
+    if !walk.rest.is_empty() {
+        return Err(ImageFault::Trailing);
+    }
+    Ok(())
+}
+
+/// The first fault, or that the bytes are an image.
+fn check_image(bytes: &[u8]) -> Result<(), ImageFault>
+    ensures { MatchResult result (λ _. (image : Image) × ImageOf bytes.now image) (FirstFault bytes.now) }
+{
+    check_header(bytes)?;
+    check_body(bytes)
+}
+
+/// Where each processor starts.
+fn read_starts(bytes: &[u8]) -> [u32; 8]
+    requires { HasHeader bytes.now }
+    ensures { result ≡ starts_of bytes.now }
+{
+    let cpus = bytes[6] as usize;
+    let mut starts = [0; 8];
+    for (cpu, start) in starts.iter_mut().enumerate() {
+        if cpu < cpus {
+            *start = read_u32(bytes, 32 + 4 * cpu);
+        }
+    }
+    starts
+}
+
+/// The image that the bytes are.
+fn image_in(alloc: Global, bytes: &[u8]) -> Result<Image, NoMemory>
+    requires { (image : Image) × ImageOf bytes.now image }
+    ensures { IfOk result (ImageOf bytes.now) }
+{
+    let at = plan_end_of(bytes);
+    let sections = sections_of(alloc, &bytes[at..], read_u32(bytes, 28))?;
+    Ok(Image {
+        memory: read_u32(bytes, 8),
+        cpus: bytes[6],
+        flags: bytes[7],
+        gdt: TableAt {
+            base: read_u32(bytes, 12),
+            limit: read_u16(bytes, 16),
+        },
+        idt: TableAt {
+            base: read_u32(bytes, 20),
+            limit: read_u16(bytes, 18),
+        },
+        starts: read_starts(bytes),
+        plan: List::new(alloc),
+        sections,
+    })
+}
+
+/// The image that the bytes are, or the first of their faults. The work takes time in proportion to the bytes.
+///
+/// Until a processor can start in a task a set flag bit is the fault `Flags`, and until plans are built a plan with an
+/// entry is the fault `PlanOrder`, each in its place in the order: bytes that end within such a plan are `Truncated`.
+pub fn read_image(alloc: Global, bytes: &[u8]) -> Result<Image, ReadStop>
+    ensures ok { IfOk result (ImageOf bytes.now) }
+    // Bytes that are an image are read, unless memory runs out.
+    ensures only { (image : Image) → ImageOf bytes.now image → (result ≡ Ok image) ⊎ (result ≡ Err Memory) }
+    ensures bad { (f : ImageFault) → (result ≡ Err (Bad f)) ↔ FirstFault bytes.now f }
+    ensures memory { result ≡ Err Memory → (image : Image) × ImageOf bytes.now image }
+{
+    check_image(bytes)?;
+    Ok(image_in(alloc, bytes)?)
+}
