@@ -8,5 +8,6 @@ pub mod Jump
 pub mod Moves
 pub mod Opcode
 pub mod Probes
+pub mod Run
 pub mod Step
 pub mod Steps
