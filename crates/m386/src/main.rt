@@ -1,0 +1,7 @@
+//! The program `m386`: it runs an image and writes the report.
+#![tactic(auto)]
+
+mod status;
+mod words;
+
+fn main() {}
