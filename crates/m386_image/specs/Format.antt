@@ -148,16 +148,17 @@ IsValid image = (bytes : List ℕ) × ImageOf bytes image
 
 -- ---- the one text of an image that is written
 
-abbrev pub header_text : Image → List ℕ
-header_text image =
-    codes "M386" ++ u16_bytes 1 ++ (image.cpus ∷ image.flags ∷ [])
-    ++ u32_bytes image.memory
-    ++ u32_bytes image.gdt.base ++ u16_bytes image.gdt.limit
-    ++ u16_bytes image.idt.limit ++ u32_bytes image.idt.base
-    ++ u32_bytes (length image.plan) ++ u32_bytes (length image.sections)
-    ++ flat_map u32_bytes image.starts
+-- the first twelve bytes: the text M386, the version, the processors, the flags, and the memory
+abbrev pub machine_text : Image → List ℕ
+machine_text image = codes "M386" ++ u16_bytes 1 ++ (image.cpus ∷ image.flags ∷ []) ++ u32_bytes image.memory
+
+abbrev pub tables_text : Image → List ℕ
+tables_text image = u32_bytes image.gdt.base ++ u16_bytes image.gdt.limit ++ u16_bytes image.idt.limit ++ u32_bytes image.idt.base
+
+abbrev pub counts_text : Image → List ℕ
+counts_text image = u32_bytes (length image.plan) ++ u32_bytes (length image.sections)
 
 -- The bytes that are written for an image: of all bytes that are the image those with 0 in each ignored word.
 -- Own choice: docs/DECISIONS.md, "The image file"
 unfoldable pub image_text : Image → List ℕ
-image_text image = header_text image ++ flat_map section_text image.sections
+image_text image = machine_text image ++ tables_text image ++ counts_text image ++ flat_map u32_bytes image.starts ++ flat_map section_text image.sections

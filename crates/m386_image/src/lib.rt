@@ -3,6 +3,8 @@
 
 pub mod fault;
 pub mod image;
+pub mod laws;
 mod number;
 pub mod reading;
 mod section;
+pub mod writing;

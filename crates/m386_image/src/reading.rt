@@ -82,7 +82,7 @@ fn check_body(bytes: &[u8]) -> Result<(), ImageFault>
 }
 
 /// The first fault, or that the bytes are an image.
-fn check_image(bytes: &[u8]) -> Result<(), ImageFault>
+pub(crate) fn check_image(bytes: &[u8]) -> Result<(), ImageFault>
     ensures { MatchResult result (λ _. (image : Image) × ImageOf bytes.now image) (FirstFault bytes.now) }
 {
     check_header(bytes)?;

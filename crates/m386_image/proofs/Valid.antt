@@ -1,0 +1,254 @@
+-- What holds of every valid image, and that its text is its bytes.
+use Rattle.std.proofs.Common.{◌≡◌, ℕ, zero, suc, ◌+◌, ◌*◌, ◌^◌, ◌<◌, ◌≤◌, Bool, true, false, ltb, List, [], ◌∷◌, ◌++◌, length, get_or, take, drop, refl, sym, ap, subst, ◌∙◌, append_assoc, arith, inl, inr, lit<}
+use Rattle.std.specs.Prelude.{nat_lt, if◌then◌else◌, codes}
+use Rattle.std.specs.Int.{w16, w32, to_le_bytes, from_le_bytes}
+use Rattle.std.specs.List.{flat_map, range_with_len, AllByRecursion}
+use Rattle.std.proofs.lemmas.Bool.{cases_lt, lt-ltb, le-ltb}
+use Rattle.std.proofs.lemmas.List.{append-nil, length-append, length-drop, drop_at, drop-drop, get_or_past}
+use Rattle.std.proofs.lemmas.List.FromFn.{fill_by_all, length-map-range_with_len, get_or-map-range_with_len}
+use Rattle.std.proofs.lemmas.Nat.{from_le_bytes-to_le_bytes_2, from_le_bytes-to_le_bytes_4}
+use Rattle.m386_image.specs.declared.image.Image.{Image}
+use Rattle.m386_image.specs.declared.image.TableAt.{TableAt}
+use Rattle.m386_image.specs.declared.image.Section.{Section}
+use Rattle.m386_image.specs.Format.{AreBytes, u16_at, u32_at, u16_bytes, u32_bytes, cpus_of, starts_of, start_of, plan_count, plan_end, section_count, section_text, HasText, TakesAll, HasSections, ArePlaced, IsMemorySize, IsCpuCount, HasHeader, ImageOf, IsValid, machine_text, tables_text, counts_text, image_text}
+use Rattle.m386_image.proofs.Numbers.{AreBytes-drop, u16_at_lt, u32_at_lt, u32_at-drop, u32_at-bytes, length-u32_bytes}
+
+-- ---- what holds of a valid image
+
+pub valid_memory : (image : Image) → IsValid image → IsMemorySize image.memory
+valid_memory image v = subst IsMemorySize (sym v.1.memory) v.1.header.memory
+
+pub valid_cpus : (image : Image) → IsValid image → IsCpuCount image.cpus
+valid_cpus image v = subst IsCpuCount (sym v.1.cpus) v.1.header.cpus
+
+pub valid_flags : (image : Image) → IsValid image → image.flags ≡ 0
+valid_flags image v = v.1.flags ∙ v.1.header.flags
+
+pub valid_plan : (image : Image) → IsValid image → image.plan ≡ []
+valid_plan image v = v.1.no_plan
+
+pub valid_placed : (image : Image) → IsValid image → ArePlaced 0 image.memory image.sections
+valid_placed image v = v.1.placed
+
+pub valid_sections : (image : Image) → IsValid image → AllByRecursion HasText image.sections
+valid_sections image v = v.1.sections.sections.text
+
+pub valid_counts : (image : Image) → IsValid image → (length image.plan < 2 ^ 32) × (length image.sections < 2 ^ 32)
+valid_counts image v =
+    (omega (arith, v.1.planned, u32_at_lt 24 v.0 v.1.are_bytes), omega (arith, v.1.sections.sections.count, u32_at_lt 28 v.0 v.1.are_bytes))
+
+-- the starts of the bytes, one by one
+get_or-starts_of : (bytes : List ℕ) (k : ℕ) → k < 8 → get_or (starts_of bytes) k 0 ≡ start_of bytes k
+unfolding starts_of
+get_or-starts_of bytes k lt = get_or-map-range_with_len (start_of bytes) 0 8 k k 0 lt (omega arith)
+
+length-starts_of : (bytes : List ℕ) → length (starts_of bytes) ≡ 8
+unfolding starts_of
+length-starts_of bytes = length-map-range_with_len (start_of bytes) 0 8
+
+starts_from : (bytes starts : List ℕ) → length starts ≡ 8 → ((k : ℕ) → k < 8 → get_or starts k 0 ≡ start_of bytes k) → starts ≡ starts_of bytes
+unfolding starts_of
+starts_from bytes starts len each = fill_by_all (start_of bytes) starts 8 0 len each
+
+-- ---- the text of a valid image is its bytes
+
+length-words : (xs : List ℕ) → length (flat_map u32_bytes xs) ≡ 4 * length xs
+length-words [] = refl
+length-words (x ∷ xs) = omega (arith, length-append (u32_bytes x) (flat_map u32_bytes xs), length-u32_bytes x, length-words xs)
+
+-- the number at place p of numbers end to end
+u32_at-words : (xs rest : List ℕ) (p : ℕ) → p < length xs → ((k : ℕ) → get_or xs k 0 < 2 ^ 32) → u32_at (4 * p) (flat_map u32_bytes xs ++ rest) ≡ get_or xs p 0
+u32_at-words [] rest p lt h = absurd (omega arith)
+u32_at-words (x ∷ xs) rest zero lt h = ap (u32_at 0) (append_assoc (u32_bytes x) (flat_map u32_bytes xs) rest) ∙ u32_at-bytes x (flat_map u32_bytes xs ++ rest) (h 0)
+u32_at-words (x ∷ xs) rest (suc p) lt h =
+    let all = flat_map u32_bytes xs ++ rest in
+    let e : u32_bytes x ++ flat_map u32_bytes xs ++ rest ≡ u32_bytes x ++ all = append_assoc (u32_bytes x) (flat_map u32_bytes xs) rest in
+    let four : 4 * suc p ≡ 4 + 4 * p = omega arith in
+    let cut : drop 4 (u32_bytes x ++ all) ≡ all = drop_at (u32_bytes x) all 4 (length-u32_bytes x) in
+    ap (u32_at (4 * suc p)) e ∙ ap (λ (n : ℕ). u32_at n (u32_bytes x ++ all)) four ∙ sym (u32_at-drop 4 (4 * p) (u32_bytes x ++ all)) ∙ ap (u32_at (4 * p)) cut
+    ∙ u32_at-words xs rest p (omega arith) (λ k. h (suc k))
+
+-- the words of a text, whose values its image keeps
+pub record HasWords (image : Image) (text : List ℕ) : Type 0 where
+  pub magic : take 4 text ≡ codes "M386"
+  pub version : u16_at 4 text ≡ 1
+  pub cpus : get_or text 6 0 ≡ image.cpus
+  pub flags : get_or text 7 0 ≡ image.flags
+  pub memory : u32_at 8 text ≡ image.memory
+  pub gdt_base : u32_at 12 text ≡ image.gdt.base
+  pub gdt_limit : u16_at 16 text ≡ image.gdt.limit
+  pub idt_limit : u16_at 18 text ≡ image.idt.limit
+  pub idt_base : u32_at 20 text ≡ image.idt.base
+  pub planned : u32_at 24 text ≡ length image.plan
+  pub sections : u32_at 28 text ≡ length image.sections
+  pub rest : drop 32 text ≡ flat_map u32_bytes image.starts ++ flat_map section_text image.sections
+
+-- the numbers of an image fit their places
+pub record Fits (image : Image) : Type 0 where
+  pub memory : image.memory < 2 ^ 32
+  pub gdt_base : image.gdt.base < 2 ^ 32
+  pub gdt_limit : image.gdt.limit < 2 ^ 16
+  pub idt_base : image.idt.base < 2 ^ 32
+  pub idt_limit : image.idt.limit < 2 ^ 16
+  pub planned : length image.plan < 2 ^ 32
+  pub sections : length image.sections < 2 ^ 32
+
+has_words : (image : Image) → Fits image → HasWords image (image_text image)
+unfolding image_text u16_at u32_at u16_bytes u32_bytes
+has_words image f = record {
+  magic = refl;
+  version = refl;
+  cpus = refl;
+  flags = refl;
+  memory = from_le_bytes-to_le_bytes_4 image.memory f.memory;
+  gdt_base = from_le_bytes-to_le_bytes_4 image.gdt.base f.gdt_base;
+  gdt_limit = from_le_bytes-to_le_bytes_2 image.gdt.limit f.gdt_limit;
+  idt_limit = from_le_bytes-to_le_bytes_2 image.idt.limit f.idt_limit;
+  idt_base = from_le_bytes-to_le_bytes_4 image.idt.base f.idt_base;
+  planned = from_le_bytes-to_le_bytes_4 (length image.plan) f.planned;
+  sections = from_le_bytes-to_le_bytes_4 (length image.sections) f.sections;
+  rest = refl;
+}
+
+valid_fits : (image : Image) → IsValid image → Fits image
+valid_fits image v = record {
+  memory = omega (arith, v.1.memory, u32_at_lt 8 v.0 v.1.are_bytes);
+  gdt_base = subst (λ (t : TableAt). t.base < 2 ^ 32) (sym v.1.gdt) (u32_at_lt 12 v.0 v.1.are_bytes);
+  gdt_limit = subst (λ (t : TableAt). t.limit < 2 ^ 16) (sym v.1.gdt) (u16_at_lt 16 v.0 v.1.are_bytes);
+  idt_base = subst (λ (t : TableAt). t.base < 2 ^ 32) (sym v.1.idt) (u32_at_lt 20 v.0 v.1.are_bytes);
+  idt_limit = subst (λ (t : TableAt). t.limit < 2 ^ 16) (sym v.1.idt) (u16_at_lt 18 v.0 v.1.are_bytes);
+  planned = (valid_counts image v).0;
+  sections = (valid_counts image v).1;
+}
+
+valid_starts : (image : Image) → IsValid image → length image.starts ≡ 8
+valid_starts image v = ap length v.1.starts ∙ length-starts_of v.0
+
+-- a start, and that it is 0 where there is no such processor
+valid_start : (image : Image) (v : IsValid image) (k : ℕ) → k < 8 → get_or image.starts k 0 ≡ start_of v.0 k
+valid_start image v k lt = ap (λ (xs : List ℕ). get_or xs k 0) v.1.starts ∙ get_or-starts_of v.0 k lt
+
+start_lt : (bytes : List ℕ) (k : ℕ) → AreBytes bytes → start_of bytes k < 2 ^ 32
+start_lt bytes k h =
+    let P : Bool → Type 0 = λ b. (if b then u32_at (32 + 4 * k) bytes else 0) < 2 ^ 32 in
+    elim (nat_lt k (cpus_of bytes)) as P [ true ↦ u32_at_lt (32 + 4 * k) bytes h | false ↦ omega arith ]
+
+valid_start_lt : (image : Image) → IsValid image → (k : ℕ) → get_or image.starts k 0 < 2 ^ 32
+valid_start_lt image v k =
+    elim (cases_lt k 8) [
+      | inl lt ↦ rw (valid_start image v k lt) (start_lt v.0 k v.1.are_bytes)
+      | inr le ↦ rw (get_or_past image.starts k 0 (omega (arith, valid_starts image v))) (omega arith)
+    ]
+
+-- each start of an image is that of its text
+text_start : (image : Image) (v : IsValid image) (text : List ℕ) → HasWords image text → (k : ℕ) → k < 8 → get_or image.starts k 0 ≡ start_of text k
+text_start image v text w k lt =
+    let is : u32_at (32 + 4 * k) text ≡ get_or image.starts k 0 =
+    sym (u32_at-drop 32 (4 * k) text) ∙ ap (u32_at (4 * k)) w.rest ∙ u32_at-words image.starts (flat_map section_text image.sections) k (omega (arith, valid_starts image v)) (valid_start_lt image v) in
+    elim (cases_lt k image.cpus) [
+      | inl here ↦ let t : ltb k image.cpus ≡ true = lt-ltb k image.cpus here in rw (w.cpus, t, is) refl
+      | inr past ↦
+          let t : ltb k image.cpus ≡ false = le-ltb k image.cpus past in
+          let absent : start_of v.0 k ≡ 0 = rw (← v.1.cpus, t) refl in
+          rw (w.cpus, t) (valid_start image v k lt ∙ absent)
+    ]
+
+-- the text of an image is of bytes
+record IsOfBytes (text : List ℕ) : Type 0 where
+  bytes : AreBytes text
+
+nil_bytes : AreBytes []
+nil_bytes i = omega arith
+
+cons_bytes : (b : ℕ) (bytes : List ℕ) → b < 256 → AreBytes bytes → AreBytes (b ∷ bytes)
+cons_bytes b bytes lt h zero = lt
+cons_bytes b bytes lt h (suc i) = h i
+
+append_bytes : (xs ys : List ℕ) → AreBytes xs → AreBytes ys → AreBytes (xs ++ ys)
+append_bytes [] ys h k = k
+append_bytes (x ∷ xs) ys h k = cons_bytes x (xs ++ ys) (h 0) (append_bytes xs ys (λ i. h (suc i)) k)
+
+both : {xs ys : List ℕ} → IsOfBytes xs → IsOfBytes ys → IsOfBytes (xs ++ ys)
+both {xs} {ys} h k = record { bytes = append_bytes xs ys h.bytes k.bytes }
+
+u16_cells : (n : ℕ) → AreBytes (u16_bytes n)
+unfolding u16_bytes
+u16_cells n zero = omega arith
+u16_cells n (suc zero) = omega arith
+u16_cells n (suc (suc i)) = omega arith
+
+u32_cells : (n : ℕ) → AreBytes (u32_bytes n)
+unfolding u32_bytes
+u32_cells n zero = omega arith
+u32_cells n (suc zero) = omega arith
+u32_cells n (suc (suc zero)) = omega arith
+u32_cells n (suc (suc (suc zero))) = omega arith
+u32_cells n (suc (suc (suc (suc i)))) = omega arith
+
+words_bytes : (xs : List ℕ) → AreBytes (flat_map u32_bytes xs)
+words_bytes [] = nil_bytes
+words_bytes (x ∷ xs) = append_bytes (u32_bytes x) (flat_map u32_bytes xs) (u32_cells x) (words_bytes xs)
+
+listed_bytes : (bytes : List ℕ) → AllByRecursion (λ b. b < 256) bytes → AreBytes bytes
+listed_bytes [] h = nil_bytes
+listed_bytes (b ∷ bytes) h = cons_bytes b bytes h.0 (listed_bytes bytes h.1)
+
+of_u16 : (n : ℕ) → IsOfBytes (u16_bytes n)
+of_u16 n = record { bytes = u16_cells n }
+
+of_u32 : (n : ℕ) → IsOfBytes (u32_bytes n)
+of_u32 n = record { bytes = u32_cells n }
+
+machine_bytes : (image : Image) → IsValid image → IsOfBytes (machine_text image)
+machine_bytes image v =
+    let magic : IsOfBytes (codes "M386") = record { bytes = listed_bytes (codes "M386") (lit< tt, (lit< tt, (lit< tt, (lit< tt, tt)))) } in
+    let cells : IsOfBytes (image.cpus ∷ image.flags ∷ []) = record { bytes = listed_bytes (image.cpus ∷ image.flags ∷ []) (omega (arith, valid_cpus image v), (omega (arith, valid_flags image v), tt)) } in
+    both (both (both magic (of_u16 1)) cells) (of_u32 image.memory)
+
+tables_bytes : (image : Image) → IsOfBytes (tables_text image)
+tables_bytes image = both (both (both (of_u32 image.gdt.base) (of_u16 image.gdt.limit)) (of_u16 image.idt.limit)) (of_u32 image.idt.base)
+
+counts_bytes : (image : Image) → IsOfBytes (counts_text image)
+counts_bytes image = both (of_u32 (length image.plan)) (of_u32 (length image.sections))
+
+text_bytes : (image : Image) → IsValid image → IsOfBytes (image_text image)
+unfolding image_text
+text_bytes image v =
+    let texts = flat_map section_text image.sections in
+    let parts : drop (plan_end v.0) v.0 ≡ texts = v.1.sections.sections.parts ∙ append-nil texts in
+    let sections : IsOfBytes texts = record { bytes = subst AreBytes parts (AreBytes-drop (plan_end v.0) v.0 v.1.are_bytes) } in
+    let starts : IsOfBytes (flat_map u32_bytes image.starts) = record { bytes = words_bytes image.starts } in
+    both (both (both (both (machine_bytes image v) (tables_bytes image)) (counts_bytes image)) starts) sections
+
+pub text_is_image : (image : Image) → IsValid image → ImageOf (image_text image) image
+text_is_image image v =
+    let text = image_text image in
+    let w = has_words image (valid_fits image v) in
+    let none : length image.plan ≡ 0 = ap length (valid_plan image v) in
+    let place : plan_end text ≡ 64 = omega (arith, w.planned, none) in
+    let words = flat_map u32_bytes image.starts in
+    let texts = flat_map section_text image.sections in
+    let len : length words ≡ 32 = omega (arith, length-words image.starts, valid_starts image v) in
+    let behind : drop 64 text ≡ texts = sym (drop-drop 32 32 text) ∙ ap (drop 32) w.rest ∙ drop_at words texts 32 len in
+    let long : 64 ≤ length text = omega (arith, length-drop 32 text, ap length w.rest, length-append words texts) in
+    record {
+      are_bytes = (text_bytes image v).bytes;
+      header = record { long = long; magic = w.magic; version = w.version; memory = rw w.memory (valid_memory image v); cpus = rw w.cpus (valid_cpus image v); flags = w.flags ∙ valid_flags image v };
+      memory = sym w.memory;
+      cpus = sym w.cpus;
+      flags = sym w.flags;
+      gdt = λ t. record { base = (sym w.gdt_base) t; limit = (sym w.gdt_limit) t };
+      idt = λ t. record { base = (sym w.idt_base) t; limit = (sym w.idt_limit) t };
+      starts = starts_from text image.starts (valid_starts image v) (text_start image v text w);
+      planned = sym w.planned;
+      no_plan = valid_plan image v;
+      sections = record {
+        plan = omega arith;
+        sections = record {
+          count = sym w.sections;
+          text = valid_sections image v;
+          parts = ap (λ (n : ℕ). drop n text) place ∙ behind ∙ sym (append-nil texts);
+        };
+      };
+      placed = valid_placed image v;
+    }
