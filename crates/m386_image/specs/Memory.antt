@@ -1,5 +1,5 @@
 -- The memory that a machine begins with.
-use Rattle.std.specs.Prelude.{ℕ, ◌+◌, ◌-◌, Bool, ◌&&◌, if◌then◌else◌, nat_lt, nat_le, List, [], ◌∷◌, ◌++◌, length, take, drop, slice_index}
+use Rattle.std.specs.Prelude.{ℕ, ◌+◌, ◌-◌, Bool, ◌&&◌, if◌then◌else◌, nat_lt, nat_le, List, [], ◌∷◌, ◌++◌, length, take, drop, slice_index, replicate}
 use Rattle.m386_image.specs.declared.image.Image.{Image}
 use Rattle.m386_image.specs.declared.image.Section.{Section}
 
@@ -16,6 +16,10 @@ byte_in (s ∷ ss) place = if covers s place then slice_index s.bytes (place - s
 -- Own choice: docs/DECISIONS.md, "The image file"
 abbrev pub byte_of_image : Image → ℕ → ℕ
 byte_of_image image place = byte_in image.sections place
+
+-- a memory of zeros
+abbrev pub zeros : ℕ → List ℕ
+zeros size = replicate size 0
 
 -- A memory in which these bytes stand from a place on.
 abbrev pub fill : ℕ → List ℕ → List ℕ → List ℕ

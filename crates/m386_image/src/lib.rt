@@ -7,4 +7,6 @@ pub mod laws;
 mod number;
 pub mod reading;
 mod section;
+#[cfg(test)]
+mod tests;
 pub mod writing;
