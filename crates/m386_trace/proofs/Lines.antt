@@ -1,0 +1,25 @@
+-- A line that grows by one field after another.
+use Rattle.std.proofs.Common.{◌≡◌, ℕ, List, [], ◌∷◌, ◌++◌, codes, refl, ap, sym, ◌∙◌, append_assoc, append-nil}
+use Rattle.m386_trace.specs.Line.{line_text, spaced}
+
+pub spaced-append : (fields more : List (List ℕ)) → spaced (fields ++ more) ≡ spaced fields ++ spaced more
+unfolding spaced
+spaced-append [] more = refl
+spaced-append (field ∷ fields) more =
+    ap (λ (rest : List ℕ). codes " " ++ field ++ rest) (spaced-append fields more) ∙ sym (append_assoc (codes " " ++ field) (spaced fields) (spaced more))
+
+-- a line that has these fields so far, behind its first one
+pub record HasFields (first : List ℕ) (fields : List (List ℕ)) (line : List ℕ) : Type 0 where
+  pub text : line ≡ first ++ spaced fields
+
+pub begun : (first line : List ℕ) → line ≡ first → HasFields first [] line
+unfolding spaced
+begun first line same = record { text = same ∙ sym (append-nil first) }
+
+pub pushed : {first : List ℕ} {fields : List (List ℕ)} {line : List ℕ} (more : List (List ℕ)) (new : List ℕ) → HasFields first fields line → new ≡ line ++ spaced more → HasFields first (fields ++ more) new
+pushed {first} {fields} {line} more new before step = record {
+  text = step ∙ ap (λ (text : List ℕ). text ++ spaced more) before.text ∙ append_assoc first (spaced fields) (spaced more) ∙ ap (λ (rest : List ℕ). first ++ rest) (sym (spaced-append fields more));
+}
+
+pub ended : {first : List ℕ} {fields : List (List ℕ)} {line : List ℕ} (new : List ℕ) → HasFields first fields line → new ≡ line ++ codes "\n" → new ≡ line_text first fields
+ended new before step = step ∙ ap (λ (text : List ℕ). text ++ codes "\n") before.text

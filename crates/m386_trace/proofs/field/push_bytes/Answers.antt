@@ -1,0 +1,6 @@
+use Rattle.std.proofs.Common.{arith, rules}
+use Rattle.m386_trace.proofs.Digits.{IsAscii-encode_lower}
+use Rattle.m386_trace.proofs.field.push_bytes.Goals as goal
+
+pub push_ascii-requires : goal.push_ascii-requires
+push_ascii-requires g c = (search rules, (IsAscii-encode_lower _ c.args.bytes.now c.in-Ok.ensures.written, omega arith))

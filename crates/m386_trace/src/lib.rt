@@ -1,0 +1,6 @@
+//! The report on a run, line by line.
+#![tactic(auto)]
+
+pub mod cycle;
+mod field;
+mod words;
