@@ -1,6 +1,6 @@
 //! A bus over a few bytes, for one processor and a step or two.
-ghost use Rattle.std.specs.Prelude.{◌≡◌, ◌<◌, ◌↔◌, [], true, false, IfOk, IsErr, length, slice_set, is_ok, if◌then◌else◌};
-ghost use Rattle.m386_base.specs.Bus.{IsEnabled, Answers, empty_view};
+ghost use Rattle.std.specs.Prelude.{◌≡◌, ◌<◌, [], true, false, slice_set};
+ghost use Rattle.m386_base.specs.Bus.{IsEnabled, empty_view};
 ghost use Rattle.m386_memory.specs.Contents.{zeros, group_in};
 ghost use Rattle.m386_memory.specs.Fixed.{few, few_after, asks_in, by_zero};
 

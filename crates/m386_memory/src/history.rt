@@ -95,7 +95,7 @@ impl Record {
     /// The cycles made so far, in their order.
     pub fn cycles(&self) -> &[Cycle]
         ensures cycles { result.now ≡ self.now.cycles }
-        ensures history { IsHistory self.now.first self.now.cycles }
+        ensures lawful { IsHistory self.now.first self.now.cycles }
     {
         self.cycles.as_slice()
     }

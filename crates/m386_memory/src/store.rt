@@ -1,5 +1,5 @@
 //! The bytes of memory and of the ports, all of them kept.
-ghost use Rattle.std.specs.Prelude.{◌≡◌, ◌≤◌, ◌+◌, ◌%◌, ◌++◌, IfOk, length, take, drop};
+ghost use Rattle.std.specs.Prelude.{◌≡◌, ◌≤◌, ◌+◌, ◌%◌, IfOk, length};
 ghost use Rattle.m386_base.specs.Bus.{IsEnabled};
 ghost use Rattle.m386_memory.specs.Contents.{IsSized, zeros, filled, byte_in, group_in, group_bytes, written, Stand};
 
@@ -9,7 +9,7 @@ use m386_base::fault::NoMemory;
 use std::alloc::Global;
 use std::marker::Model;
 
-/// How many bytes the ports are.
+/// The number of byte ports.
 const PORTS: usize = 0x1_0000;
 
 /// Memory of whole pages, from 4,096 to 16,777,216 bytes, and the 65,536 byte ports. Contracts see the bytes.
