@@ -11,6 +11,7 @@ is_listed fail_at number = list_any (λ listed. listed == number) fail_at
 
 -- A source in memory: the bytes left, the most that one read gives, the numbers of the reads that fail, and how many
 -- reads were made and how many of them failed.
+-- Own choice: docs/DECISIONS.md, "Sources, sinks and the gate"
 pub record MemInput : Type 0 where
   pub left : List ℕ
   pub piece : ℕ
@@ -36,6 +37,7 @@ MemReads old new room (Err failed) =
 
 -- A sink in memory: the bytes held, the most that one write takes, the most that it may hold, the numbers of the writes
 -- that fail, and how many writes were made and how many of them failed.
+-- Own choice: docs/DECISIONS.md, "Sources, sinks and the gate"
 pub record MemOutput : Type 0 where
   pub held : List ℕ
   pub piece : ℕ
