@@ -1,3 +1,4 @@
 pub mod Begin
+pub mod Lone
 pub mod Status
 pub mod Words

@@ -2,7 +2,7 @@
 use Rattle.std.proofs.Common.{◌≡◌, ◌≢◌, ℕ, zero, suc, ◌+◌, List, [], ◌++◌, refl, ap, ◌∙◌, append_assoc, append-nil, add-one, ◌<◌, inl, inr, sym}
 use Rattle.m386_base.specs.declared.ask.Ask.{Ask}
 use Rattle.m386_base.specs.Bus.{BusView}
-use Rattle.m386_base.specs.Phrase.{Whole, Wants, IsJudged}
+use Rattle.m386_base.specs.Phrase.{Whole, Wants, IsJudged, SameBus}
 use Rattle.m386_base.proofs.Bounds.{follow-front}
 use Rattle.m386_state.specs.declared.proc.Proc.{Proc}
 use Rattle.m386_state.specs.declared.proc.Mode.TheVariants.{Shutdown}
@@ -25,25 +25,27 @@ pub record SoFar (s : Proc) (old now : BusView) (p : Proc) (k : ℕ) : Type 0 wh
   pub added : List Ask
   pub cycles : now.cycles ≡ old.cycles ++ added
   pub steps : Steps k [] 0 s added p
+  pub same : SameBus old now
 
 pub so_far_none : (s : Proc) (v : BusView) → SoFar s v v s 0
 unfolding Steps
-so_far_none s v = record { added = []; cycles = sym (append-nil v.cycles); steps = (refl, refl) }
+so_far_none s v = record { added = []; cycles = sym (append-nil v.cycles); steps = (refl, refl); same = record { stops = refl; pauses = refl; origin = refl } }
 
-pub so_far_more : (s : Proc) (old now new : BusView) (p p2 : Proc) (k : ℕ) → SoFar s old now p k → p.mode ≢ Shutdown → IsJudged (step_phrase p) now new (Whole p2 []) → SoFar s old new p2 (k + 1)
-so_far_more s old now new p p2 k h lives j = rw (add-one k) (record {
+pub so_far_more : (s : Proc) (old now new : BusView) (p p2 : Proc) (k : ℕ) → SoFar s old now p k → p.mode ≢ Shutdown → IsJudged (step_phrase p) now new (Whole p2 []) → SameBus now new → SoFar s old new p2 (k + 1)
+so_far_more s old now new p p2 k h lives j b = rw (add-one k) (record {
   added = h.added ++ j.0;
   cycles = j.1 ∙ ap (λ c. c ++ j.0) h.cycles ∙ append_assoc old.cycles h.added j.0;
   steps = steps_more k 0 s p p2 h.added j.0 h.steps lives j.2;
+  same = record { stops = b.stops ∙ h.same.stops; pauses = b.pauses ∙ h.same.pauses; origin = b.origin ∙ h.same.origin };
 })
 
 -- the whole budget was used
 pub runs_out : (s : Proc) (old now : BusView) (p : Proc) (k n : ℕ) → SoFar s old now p k → k ≡ n → RunsOn [] n s old now p k
-runs_out s old now p k n h e = record { added = h.added; cycles = h.cycles; runs = record { steps = h.steps; budget = inl e } }
+runs_out s old now p k n h e = record { added = h.added; cycles = h.cycles; runs = record { steps = h.steps; budget = inl e }; same = h.same }
 
 -- the processor was shut down before
 pub runs_down : (s : Proc) (old now : BusView) (p : Proc) (k n : ℕ) → SoFar s old now p k → k < n → p.mode ≡ Shutdown → RunsOn [] n s old now p k
-runs_down s old now p k n h l e = record { added = h.added; cycles = h.cycles; runs = record { steps = h.steps; budget = inr (l, e) } }
+runs_down s old now p k n h l e = record { added = h.added; cycles = h.cycles; runs = record { steps = h.steps; budget = inr (l, e) }; same = h.same }
 
 -- the bus stopped in the midst of a step
 pub stops_amid : (s : Proc) (old now new : BusView) (p : Proc) (k n : ℕ) (q : Ask) → SoFar s old now p k → k < n → IsJudged (step_phrase p) now new (Wants q) → StopsAmid [] n s old new p

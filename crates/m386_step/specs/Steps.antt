@@ -2,7 +2,7 @@
 use Rattle.std.specs.Prelude.{◌≡◌, ◌≢◌, ◌++◌, ℕ, zero, suc, ◌+◌, ◌<◌, ◌⊎◌, ◌&&◌, Bool, false, nat_le, is_none, if◌then◌else◌, Some, List, [], ◌∷◌}
 use Rattle.m386_base.specs.declared.ask.Ask.{Ask}
 use Rattle.m386_base.specs.Bus.{BusView}
-use Rattle.m386_base.specs.Phrase.{Whole, Wants}
+use Rattle.m386_base.specs.Phrase.{Whole, Wants, SameBus}
 use Rattle.m386_state.specs.declared.proc.Proc.{Proc}
 use Rattle.m386_state.specs.declared.proc.Mode.TheVariants.{Shutdown}
 use Rattle.m386_step.specs.Step.{Follow}
@@ -44,6 +44,7 @@ pub record RunsOn (q : Plan) (n : ℕ) (s : Proc) (old new : BusView) (s2 : Proc
   pub added : List Ask
   pub cycles : new.cycles ≡ old.cycles ++ added
   pub runs : Runs q n s added s2 k
+  pub same : SameBus old new
 
 -- the cycles that a bus gained are fewer than n whole steps and a proper front of one more
 pub record StopsAmid (q : Plan) (n : ℕ) (s : Proc) (old new : BusView) (s2 : Proc) : Type 0 where
