@@ -32,22 +32,17 @@ status_number WriteFault = 4
 status_number (Image fault) = 5
 status_number TooLong = 7
 
--- a fault with its number and name
-abbrev pub numbered : List ℕ → ℕ → List ℕ → List ℕ
-numbered kind number name = kind ++ codes " fault " ++ decimal number ++ codes " " ++ name
-
--- what a status says
-abbrev pub told_of : Status → List ℕ
-told_of Done = []
-told_of Memory = codes "out of memory"
-told_of (Usage kind) = numbered (codes "usage") (usage_number kind) (usage_name kind)
-told_of ReadFault = codes "read fault"
-told_of WriteFault = codes "write fault"
-told_of (Image fault) = numbered (codes "image") (fault_number fault) (fault_name fault)
-told_of TooLong = codes "input too long"
+-- the line of a fault with its number and name, behind the words that begin it
+abbrev pub fault_line : List ℕ → ℕ → List ℕ → List ℕ
+fault_line begin number name = (begin ++ decimal number ++ codes " ") ++ (name ++ codes "\n")
 
 -- The line that is written to err: none where the status is Done.
 -- Own choice: docs/DECISIONS.md, "Statuses"
-abbrev pub status_line : Status → List ℕ
+unfoldable pub status_line : Status → List ℕ
 status_line Done = []
-status_line status = codes "m386: " ++ told_of status ++ 10 ∷ []
+status_line Memory = codes "m386: out of memory\n"
+status_line (Usage kind) = fault_line (codes "m386: usage fault ") (usage_number kind) (usage_name kind)
+status_line ReadFault = codes "m386: read fault\n"
+status_line WriteFault = codes "m386: write fault\n"
+status_line (Image fault) = fault_line (codes "m386: image fault ") (fault_number fault) (fault_name fault)
+status_line TooLong = codes "m386: input too long\n"

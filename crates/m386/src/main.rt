@@ -5,6 +5,7 @@ mod alone;
 mod begin;
 mod lone_bus;
 mod status;
+mod tell;
 mod words;
 
 fn main() {}
