@@ -119,7 +119,7 @@ valid_fits image v = record {
   sections = (valid_counts image v).1;
 }
 
-valid_starts : (image : Image) → IsValid image → length image.starts ≡ 8
+pub valid_starts : (image : Image) → IsValid image → length image.starts ≡ 8
 valid_starts image v = ap length v.1.starts ∙ length-starts_of v.0
 
 -- a start, and that it is 0 where there is no such processor

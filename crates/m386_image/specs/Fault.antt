@@ -34,8 +34,9 @@ fault_name PlanOrder = codes "PlanOrder"
 fault_name faults.Section = codes "Section"
 fault_name Trailing = codes "Trailing"
 
--- When a fault stands. Until a processor can start in a task Flags stands for every bit, and until plans are built
--- PlanOrder stands for every entry.
+-- When a fault stands. Truncated says that the bytes end within the plan's entries and the sections that the header
+-- counts: no sections stand there whole. Until a processor can start in a task Flags stands for every bit that is set,
+-- and until plans are built PlanOrder stands for every entry.
 -- Own choice: docs/DECISIONS.md, "The image file"
 abbrev pub Stands : List ℕ → ImageFault → Type 0
 Stands bytes ShortHeader = length bytes < 64

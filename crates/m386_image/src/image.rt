@@ -11,7 +11,7 @@ pub struct Image {
     pub cpus: u8,
     /// Bit p is 1 where processor p starts in a task. Until such a start is built it is 0.
     pub flags: u8,
-    /// The global descriptor table that each processor starts with (PRM 5.1.4).
+    /// The global descriptor table that each processor starts with (PRM 5.1.2).
     pub gdt: TableAt,
     /// The interrupt descriptor table that each processor starts with (PRM 9.4).
     pub idt: TableAt,

@@ -17,6 +17,29 @@ use std::alloc::Global;
 /// How many bytes the header has.
 const HEADER: usize = 64;
 
+// The places of its fields.
+const VERSION: usize = 4;
+
+const CPUS: usize = 6;
+
+const FLAGS: usize = 7;
+
+const MEMORY: usize = 8;
+
+const GDT_BASE: usize = 12;
+
+const GDT_LIMIT: usize = 16;
+
+const IDT_LIMIT: usize = 18;
+
+const IDT_BASE: usize = 20;
+
+const PLAN_COUNT: usize = 24;
+
+const SECTION_COUNT: usize = 28;
+
+const STARTS: usize = 32;
+
 /// Whether a machine may have so much memory.
 fn is_memory_size(bytes: u32) -> bool
     ensures { IsTrue result ↔ IsMemorySize bytes }
@@ -34,16 +57,16 @@ fn check_header(bytes: &[u8]) -> Result<(), ImageFault>
     if &bytes[..4] != b"M386".as_slice() {
         return Err(ImageFault::Magic);
     }
-    if read_u16(bytes, 4) != 1 {
+    if read_u16(bytes, VERSION) != 1 {
         return Err(ImageFault::Version);
     }
-    if !is_memory_size(read_u32(bytes, 8)) {
+    if !is_memory_size(read_u32(bytes, MEMORY)) {
         return Err(ImageFault::MemorySize);
     }
-    if bytes[6] == 0 || bytes[6] > 8 {
+    if bytes[CPUS] == 0 || bytes[CPUS] > 8 {
         return Err(ImageFault::Processors);
     }
-    if bytes[7] != 0 {
+    if bytes[FLAGS] != 0 {
         return Err(ImageFault::Flags);
     }
     Ok(())
@@ -54,7 +77,7 @@ fn plan_end_of(bytes: &[u8]) -> usize
     requires { HasHeader bytes.now }
     ensures { result ≡ plan_end bytes.now }
 {
-    HEADER + 8 * read_u32(bytes, 24) as usize
+    HEADER + 8 * read_u32(bytes, PLAN_COUNT) as usize
 }
 
 /// The faults of what follows the header.
@@ -66,7 +89,11 @@ fn check_body(bytes: &[u8]) -> Result<(), ImageFault>
     if bytes.len() < at {
         return Err(ImageFault::Truncated);
     }
-    let Some(walk) = walk_sections(&bytes[at..], read_u32(bytes, 28), read_u32(bytes, 8)) else {
+    let Some(walk) = walk_sections(
+        &bytes[at..],
+        read_u32(bytes, SECTION_COUNT),
+        read_u32(bytes, MEMORY),
+    ) else {
         return Err(ImageFault::Truncated);
     };
     if at > HEADER {
@@ -94,11 +121,11 @@ fn read_starts(bytes: &[u8]) -> [u32; 8]
     requires { HasHeader bytes.now }
     ensures { result ≡ starts_of bytes.now }
 {
-    let cpus = bytes[6] as usize;
+    let cpus = bytes[CPUS] as usize;
     let mut starts = [0; 8];
     for (cpu, start) in starts.iter_mut().enumerate() {
         if cpu < cpus {
-            *start = read_u32(bytes, 32 + 4 * cpu);
+            *start = read_u32(bytes, STARTS + 4 * cpu);
         }
     }
     starts
@@ -110,18 +137,18 @@ fn image_in(alloc: Global, bytes: &[u8]) -> Result<Image, NoMemory>
     ensures { IfOk result (ImageOf bytes.now) }
 {
     let at = plan_end_of(bytes);
-    let sections = sections_of(alloc, &bytes[at..], read_u32(bytes, 28))?;
+    let sections = sections_of(alloc, &bytes[at..], read_u32(bytes, SECTION_COUNT))?;
     Ok(Image {
-        memory: read_u32(bytes, 8),
-        cpus: bytes[6],
-        flags: bytes[7],
+        memory: read_u32(bytes, MEMORY),
+        cpus: bytes[CPUS],
+        flags: bytes[FLAGS],
         gdt: TableAt {
-            base: read_u32(bytes, 12),
-            limit: read_u16(bytes, 16),
+            base: read_u32(bytes, GDT_BASE),
+            limit: read_u16(bytes, GDT_LIMIT),
         },
         idt: TableAt {
-            base: read_u32(bytes, 20),
-            limit: read_u16(bytes, 18),
+            base: read_u32(bytes, IDT_BASE),
+            limit: read_u16(bytes, IDT_LIMIT),
         },
         starts: read_starts(bytes),
         plan: List::new(alloc),

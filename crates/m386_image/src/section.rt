@@ -12,8 +12,11 @@ use std::alloc::Global;
 /// A section in a file, and the bytes behind it.
 #[derive(Clone, Copy)]
 struct Part<'a> {
+    /// The address of its first byte.
     addr: u32,
+    /// Its bytes.
     bytes: &'a [u8],
+    /// What stands behind it.
     rest: &'a [u8],
 }
 
@@ -56,11 +59,12 @@ fn next_section(bytes: &[u8]) -> Option<Part<'_>>
     })
 }
 
-/// What stands behind the sections of a file, and whether they are placed as an image's are: rising, apart, and inside
-/// the memory.
+/// What a walk over the sections of a file found.
 #[derive(Clone, Copy)]
 pub struct Walk<'a> {
+    /// What stands behind the last section.
     pub rest: &'a [u8],
+    /// Whether the sections are placed as an image's are: rising, apart, and inside the memory.
     pub placed: bool,
 }
 
