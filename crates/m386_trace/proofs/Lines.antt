@@ -23,3 +23,12 @@ pushed {first} {fields} {line} more new before step = record {
 
 pub ended : {first : List ℕ} {fields : List (List ℕ)} {line : List ℕ} (new : List ℕ) → HasFields first fields line → new ≡ line ++ codes "\n" → new ≡ line_text first fields
 ended new before step = step ∙ ap (λ (text : List ℕ). text ++ codes "\n") before.text
+
+-- two fields, one after the other
+pub pushed_two : (line mid new first second : List ℕ) → mid ≡ line ++ spaced (first ∷ []) → new ≡ mid ++ spaced (second ∷ []) → new ≡ line ++ spaced (first ∷ second ∷ [])
+pushed_two line mid new first second before step =
+    let text : HasFields line (first ∷ second ∷ []) new = pushed _ _ (record { text = before }) step in text.text
+
+-- a line with no more fields than before
+pub unchanged : (line : List ℕ) → HasFields line [] line
+unchanged line = begun line line refl

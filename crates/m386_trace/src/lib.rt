@@ -3,4 +3,5 @@
 
 pub mod cycle;
 mod field;
+pub mod proc;
 mod words;
