@@ -81,7 +81,7 @@ procs_text cpu (e ∷ es) = proc_text cpu e ++ procs_text (cpu + 1) es
 
 -- The first line, which names the form of the report.
 -- Own choice: docs/DECISIONS.md, "The report"
-abbrev pub title_text : List ℕ
+unfoldable pub title_text : List ℕ
 title_text = codes "m386 report 1\n"
 
 -- The second line: the size of memory, and how many processors ran.

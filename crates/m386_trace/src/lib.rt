@@ -3,5 +3,8 @@
 
 pub mod cycle;
 mod field;
+mod machine;
 pub mod proc;
+pub mod report;
+mod verdict;
 mod words;

@@ -1,0 +1,7 @@
+use Rattle.std.specs.Prelude.{All}
+use Rattle.m386_trace.specs.Report.{IsPrintable}
+use Rattle.m386_trace.proofs.Printable.{all_printable}
+use Rattle.m386_trace.proofs.report.report.Goals as goal
+
+pub write_cycles-requires : goal.write_cycles-requires
+write_cycles-requires g c = rw c.cycles.ensures.cycles (all_printable _ _ c.cycles.ensures.history c.requires.cpus)
