@@ -1,6 +1,7 @@
 -- The cycles of a history have a line each.
-use Rattle.std.proofs.Common.{ℕ, zero, suc, ◌+◌, ◌-◌, ◌<◌, ◌≡◌, List, [], ◌∷◌, length, get_or, reverse, sym, subst, ◌∙◌, ap, arith}
+use Rattle.std.proofs.Common.{ℕ, zero, suc, ◌+◌, ◌-◌, ◌<◌, ◌≡◌, List, [], ◌∷◌, ◌++◌, length, get_or, reverse, sym, subst, ◌∙◌, ap, arith}
 use Rattle.std.specs.Prelude.{All}
+use Rattle.std.proofs.lemmas.List.Elements.{All-push}
 use Rattle.std.proofs.lemmas.List.{get_or-reverse, length-reverse}
 use Rattle.m386_base.specs.declared.ask.Cycle.{Cycle}
 use Rattle.m386_base.specs.Bus.{IsAsk}
@@ -29,3 +30,7 @@ all_printable first history lawful cpus k d lt =
     let ask = formed_in_order first history k d lawful lt in
     let cpu = cpus k d lt in
     record { cpu = omega arith; part = ask.part; enables = ask.group }
+
+-- one more cycle of a processor below 8
+pub all_pushed : (history : List Cycle) (c : Cycle) → All (λ x. x.cpu < 8) history → c.cpu < 8 → All (λ x. x.cpu < 8) (history ++ c ∷ [])
+all_pushed history c before here = All-push (λ x. x.cpu < 8) history c before here

@@ -6,5 +6,7 @@ mod field;
 mod machine;
 pub mod proc;
 pub mod report;
+#[cfg(test)]
+mod tests;
 mod verdict;
 mod words;

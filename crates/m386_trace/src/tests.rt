@@ -1,0 +1,260 @@
+//! Lines and a report, byte for byte.
+ghost use Rattle.std.specs.Prelude.{◌<◌, All, IfOk};
+
+use crate::cycle::cycle_line;
+use crate::proc::proc_line;
+use crate::report::report;
+use crate::verdict::verdict_line;
+use crate::words::role_word;
+use m386_base::ask::{Ask, Cycle, Role, Space};
+use m386_base::list::List;
+use m386_book::verdict::Verdict;
+use m386_edge::failed::Failed;
+use m386_edge::mem_sink::MemSink;
+use m386_image::image::{Image, TableAt};
+use m386_memory::ended::ProcEnd;
+use m386_memory::history::Record;
+use m386_memory::store::Store;
+use m386_state::event::{Cause, Event};
+use m386_state::proc::{Mode, Proc, start_bare};
+use m386_state::segment::TableReg;
+use std::alloc::Global;
+use std::test::Fail;
+
+const FETCH: Ask = Ask {
+    space: Space::Memory,
+    write: false,
+    joined: false,
+    role: Role::Fetch,
+    part: 0,
+    addr: 0x1000,
+    enables: 15,
+    value: 0x3456_78b8,
+};
+
+const STORE: Ask = Ask {
+    space: Space::Memory,
+    write: true,
+    joined: false,
+    role: Role::Operand,
+    part: 0,
+    addr: 0x2000,
+    enables: 15,
+    value: 0x1234_5678,
+};
+
+/// The state after the three instructions MOV EAX, 12345678h; MOV [2000h], EAX; HLT.
+fn first_run() -> ProcEnd<Proc> {
+    let table = TableReg { base: 0, limit: 0 };
+    let mut after = start_bare(0x100b, table, table);
+    after.mode = Mode::Halted;
+    after.regs[0] = 0x1234_5678;
+    ProcEnd { after, steps: 3 }
+}
+
+/// The line of that processor.
+const FIRST_RUN: &str =
+    "p 0 halted steps 3 eip 0000100b efl 00000002 eax 12345678 ecx 00000000 edx 00000000 ebx 00000000 esp 00000000 ebp 00000000 esi 00000000 edi 00000000 es 0010 cs 0008 ss 0010 ds 0010 fs 0010 gs 0010 ldt 0000 tr 0000 cr0 00000001 pending none\n";
+
+#[test]
+fn cycles_of_a_run(rt: HostRuntime) {
+    let lines = [
+        (0, FETCH, "c 0 m r . fetch 00 00001000 f 345678b8\n"),
+        (
+            0,
+            Ask {
+                addr: 0x1004,
+                value: 0x2000_a312,
+                ..FETCH
+            },
+            "c 0 m r . fetch 00 00001004 f 2000a312\n",
+        ),
+        (
+            0,
+            Ask {
+                addr: 0x1008,
+                value: 0xf4_0000,
+                ..FETCH
+            },
+            "c 0 m r . fetch 00 00001008 f 00f40000\n",
+        ),
+        (0, STORE, "c 0 m w . data 00 00002000 f 12345678\n"),
+        (
+            0,
+            Ask {
+                enables: 8,
+                value: 0x7800_0000,
+                ..STORE
+            },
+            "c 0 m w . data 00 00002000 8 78000000\n",
+        ),
+        (
+            0,
+            Ask {
+                part: 1,
+                addr: 0x2004,
+                enables: 7,
+                value: 0x12_3456,
+                ..STORE
+            },
+            "c 0 m w . data 01 00002004 7 00123456\n",
+        ),
+        (
+            7,
+            Ask {
+                joined: true,
+                value: 2,
+                ..STORE
+            },
+            "c 7 m w + data 00 00002000 f 00000002\n",
+        ),
+        (
+            0,
+            Ask {
+                space: Space::Port,
+                addr: 4,
+                enables: 8,
+                value: 0,
+                ..STORE
+            },
+            "c 0 p w . data 00 00000004 8 00000000\n",
+        ),
+        (
+            1,
+            Ask {
+                role: Role::ClaimStart,
+                part: 99,
+                addr: 0xffff_fffc,
+                ..FETCH
+            },
+            "c 1 m r . claimstart 99 fffffffc f 345678b8\n",
+        ),
+    ];
+    for (cpu, ask, line) in lines {
+        assert_eq!(rt; cycle_line(&Cycle { cpu, ask }).as_str(), line);
+    }
+}
+
+#[test]
+fn words_of_roles(rt: HostRuntime) {
+    let words = [
+        (Role::Fetch, "fetch"),
+        (Role::Operand, "data"),
+        (Role::Push, "push"),
+        (Role::Pop, "pop"),
+        (Role::Flags, "flags"),
+        (Role::Gdt, "gdt"),
+        (Role::Ldt, "ldt"),
+        (Role::Idt, "idt"),
+        (Role::GdtAcc, "gdtacc"),
+        (Role::LdtAcc, "ldtacc"),
+        (Role::Tss, "tss"),
+        (Role::ClaimJmp, "claimjmp"),
+        (Role::ClaimCall, "claimcall"),
+        (Role::ClaimStart, "claimstart"),
+        (Role::ClaimLtr, "claimltr"),
+        (Role::Save, "save"),
+        (Role::Load, "load"),
+        (Role::Link, "link"),
+        (Role::Back, "back"),
+        (Role::RelJmp, "reljmp"),
+        (Role::RelRet, "relret"),
+        (Role::Inner, "inner"),
+        (Role::Map, "map"),
+        (Role::Lgdt, "lgdt"),
+        (Role::Lidt, "lidt"),
+    ];
+    for (role, word) in words {
+        assert_eq!(rt; role_word(role), word);
+    }
+}
+
+#[test]
+fn processors_at_their_end(rt: HostRuntime) {
+    let mut end = first_run();
+    assert_eq!(rt; proc_line(0, &end).as_str(), FIRST_RUN);
+    let code = Some(0x102);
+    end.after.pending = Some(Event {
+        vector: 13,
+        code,
+        cause: Cause::Exception,
+    });
+    assert!(rt; proc_line(0, &end).as_str().ends_with(" pending 0d 0102\n"));
+    end.after.pending = Some(Event {
+        vector: 6,
+        code: None,
+        cause: Cause::Exception,
+    });
+    assert!(rt; proc_line(0, &end).as_str().ends_with(" pending 06 -\n"));
+}
+
+#[test]
+fn verdicts(rt: HostRuntime) {
+    assert_eq!(rt; verdict_line(None).as_str(), "unjudged\n");
+    assert_eq!(rt; verdict_line(Some(&Verdict::Clean)).as_str(), "clean\n");
+    assert_eq!(rt;
+        verdict_line(Some(&Verdict::Static(4))).as_str(),
+        "unclean rule 4\n"
+    );
+    let at = Verdict::At { rule: 8, index: 6 };
+    assert_eq!(rt; verdict_line(Some(&at)).as_str(), "unclean rule 8 at 6\n");
+}
+
+/// A record of that store and a read of what it wrote.
+#[tactic(auto, using(crate::proofs::Printable::all_pushed))]
+fn two_cycles(alloc: Global) -> Result<Record, Fail>
+    ensures { IfOk result (λ log. All (λ c. c.cpu < 8) log.cycles) }
+{
+    let mut log = Record::new(alloc, Store::new(alloc, 16384)?);
+    log.put(0, STORE)?;
+    log.put(
+        0,
+        Ask {
+            write: false,
+            value: 0,
+            ..STORE
+        },
+    )?;
+    Ok(log)
+}
+
+/// Its report, to a sink whose write with this number fails.
+fn written(alloc: Global, fails: u32) -> Result<(MemSink, Result<(), Failed>), Fail> {
+    let image = Image {
+        memory: 16384,
+        cpus: 1,
+        flags: 0,
+        gdt: TableAt { base: 0, limit: 0 },
+        idt: TableAt { base: 0, limit: 0 },
+        starts: [0x1000, 0, 0, 0, 0, 0, 0, 0],
+        plan: List::new(alloc),
+        sections: List::new(alloc),
+    };
+    let log = two_cycles(alloc)?;
+    let mut sink = MemSink::new(alloc, 512, 4096, [fails].to_vec(alloc)?)?;
+    let ended = report(
+        &image,
+        &log,
+        &[first_run()],
+        Some(&Verdict::Clean),
+        &mut sink,
+    );
+    Ok((sink, ended))
+}
+
+#[test]
+fn whole_report(rt: HostRuntime) -> Result<(), Fail> {
+    let (sink, ended) = written(rt.alloc(), 0)?;
+    assert_eq!(rt; ended, Ok(()));
+    let head =
+        "m386 report 1\nmemory 00004000 cpus 1\nc 0 m w . data 00 00002000 f 12345678\nc 0 m r . data 00 00002000 f 12345678\n";
+    let text = format!(in rt.alloc(); "{head}{FIRST_RUN}clean\n")?;
+    assert_eq!(rt; sink.bytes(), text.as_bytes());
+    let (sink, ended) = written(rt.alloc(), 4)?;
+    assert_eq!(rt; ended, Err(Failed));
+    assert_eq!(rt;
+        sink.bytes(),
+        b"m386 report 1\nmemory 00004000 cpus 1\nc 0 m w . data 00 00002000 f 12345678\n".as_slice()
+    );
+    Ok(())
+}
