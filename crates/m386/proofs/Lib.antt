@@ -1,3 +1,4 @@
+pub mod Answers
 pub mod Beginning
 pub mod LoneRuns
 pub mod Numbers

@@ -1,4 +1,5 @@
 pub mod Begin
 pub mod Lone
 pub mod Status
+pub mod Top
 pub mod Words

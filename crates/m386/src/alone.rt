@@ -27,10 +27,7 @@ pub fn run_alone(alloc: Global, image: &Image, steps: u32) -> Result<Ended<Proc>
     let Ok(made) = run(&mut after, &mut bus, steps) else {
         return Err(NoMemory);
     };
-    procs.push(ProcEnd {
-        after,
-        steps: made,
-    })?;
+    procs.push(ProcEnd { after, steps: made })?;
     Ok(Ended {
         log: bus.into_record(),
         procs,
