@@ -1,0 +1,125 @@
+-- What each test of the check table says.
+use Rattle.std.specs.Prelude.{ℕ, Bool, true, false, not, ◌&&◌, ◌||◌, ◌==◌, nat_le, if◌then◌else◌, Option, Some, None, slice_index, slice_index_or}
+use Rattle.m386_base.specs.declared.desc.Desc.{Desc}
+use Rattle.m386_desc.specs.declared.kind.Kind.{Kind}
+use Rattle.m386_desc.specs.declared.kind.Kind.TheVariants as kinds
+use Rattle.m386_desc.specs.Access.{dpl_of, is_present, is_code_32, kind_of}
+use Rattle.m386_desc.specs.Kind.{is_conforming_kind, is_readable_kind, is_writable_kind}
+use Rattle.m386_desc.specs.Offsets.{limit_of, are_offsets}
+use Rattle.m386_desc.specs.Selector.{rpl_of, names_ldt, is_null_selector}
+use Rattle.m386_checks.specs.declared.facts.Facts.{Facts}
+use Rattle.m386_checks.specs.declared.facts.SwitchKind.{SwitchKind}
+use Rattle.m386_checks.specs.declared.facts.SwitchKind.TheVariants as switches
+use Rattle.m386_checks.specs.declared.table.Test.{Test}
+use Rattle.m386_checks.specs.declared.table.Test.TheVariants as tests
+
+-- the selector of a segment register, in the order ES, CS, SS, DS, FS, GS
+abbrev pub selector_at : Facts → ℕ → ℕ
+selector_at f seg = slice_index f.segs seg
+
+-- its descriptor
+abbrev pub descriptor_at : Facts → ℕ → Option Desc
+descriptor_at f seg = slice_index_or f.seg_descs seg None
+
+-- the new task's privilege level: the RPL of its CS
+abbrev pub new_cpl : Facts → ℕ
+new_cpl f = rpl_of (selector_at f 1)
+
+-- the descriptor was read, and passes
+abbrev pub given : Option Desc → (Desc → Bool) → Bool
+given None passes = false
+given (Some d) passes = passes d
+
+-- at this privilege and with this RPL the descriptor may be used
+abbrev pub is_reached_from : ℕ → ℕ → Desc → Bool
+is_reached_from cpl rpl d = nat_le cpl (dpl_of d) && nat_le rpl (dpl_of d)
+
+abbrev pub is_start : SwitchKind → Bool
+is_start switches.Start = true
+is_start _ = false
+
+-- a JMP or CALL, through a gate or not
+abbrev pub is_jump : SwitchKind → Bool
+is_jump switches.Jmp = true
+is_jump switches.Call = true
+is_jump _ = false
+
+-- the mark that the new TSS must bear: busy for IRET, and available for all else
+abbrev pub mark_wanted : SwitchKind → Bool
+mark_wanted switches.Iret = true
+mark_wanted _ = false
+
+abbrev pub is_tss_kind : Kind → Bool
+is_tss_kind (kinds.Tss busy) = true
+is_tss_kind _ = false
+
+abbrev pub is_marked_kind : Bool → Kind → Bool
+is_marked_kind true (kinds.Tss busy) = busy
+is_marked_kind false (kinds.Tss busy) = not busy
+is_marked_kind _ _ = false
+
+abbrev pub is_ldt_kind : Kind → Bool
+is_ldt_kind kinds.Ldt = true
+is_ldt_kind _ = false
+
+abbrev pub is_tss : Desc → Bool
+is_tss d = is_tss_kind (kind_of d)
+
+abbrev pub is_marked : Bool → Desc → Bool
+is_marked busy d = is_marked_kind busy (kind_of d)
+
+-- the 104 bytes of the fields lie in the segment
+abbrev pub has_all_fields : Desc → Bool
+has_all_fields d = nat_le 103 (limit_of d)
+
+abbrev pub is_ldt : Desc → Bool
+is_ldt d = is_ldt_kind (kind_of d)
+
+abbrev pub is_conforming : Desc → Bool
+is_conforming d = is_conforming_kind (kind_of d)
+
+abbrev pub is_readable : Desc → Bool
+is_readable d = is_readable_kind (kind_of d)
+
+abbrev pub is_writable : Desc → Bool
+is_writable d = is_writable_kind (kind_of d)
+
+-- code that runs at this level
+abbrev pub runs_at : ℕ → Desc → Bool
+runs_at level d = if is_conforming d then nat_le (dpl_of d) level else dpl_of d == level
+
+-- a stack of this level
+abbrev pub has_level : ℕ → Desc → Bool
+has_level level d = dpl_of d == level
+
+-- conforming code, or what may be used at this privilege and with this RPL
+abbrev pub may_be_data_from : ℕ → ℕ → Desc → Bool
+may_be_data_from cpl rpl d = is_conforming d || is_reached_from cpl rpl d
+
+-- EIP is an offset of the segment
+abbrev pub holds_offset : ℕ → Desc → Bool
+holds_offset offset d = are_offsets d offset 1
+
+-- The tests of the table's rows, in their order. `seg` is the data segment register whose turn it is.
+-- Source: Intel 80386 PRM 7.5; the rows: docs/DECISIONS.md, "The check table of a task switch"
+unfoldable pub test_holds : Test → Facts → ℕ → Bool
+test_holds tests.TrUsable f seg = is_start f.kind || f.tr_usable
+test_holds tests.TssInGdt f seg = not (is_null_selector f.selector) && not (names_ldt f.selector) && f.in_gdt
+test_holds tests.TssOf386 f seg = given f.tss is_tss
+test_holds tests.TssPrivilege f seg = not (f.direct && is_jump f.kind) || given f.tss (is_reached_from f.cpl f.rpl)
+test_holds tests.TssState f seg = given f.tss (is_marked (mark_wanted f.kind))
+test_holds tests.TssPresent f seg = given f.tss is_present
+test_holds tests.TssLimit f seg = given f.tss has_all_fields
+test_holds tests.LdtInGdt f seg = is_null_selector f.ldt || (not (names_ldt f.ldt) && given f.ldt_desc is_ldt)
+test_holds tests.LdtPresent f seg = is_null_selector f.ldt || given f.ldt_desc is_present
+test_holds tests.CsCode f seg = not (is_null_selector (selector_at f 1)) && given (descriptor_at f 1) is_code_32
+test_holds tests.CsPrivilege f seg = given (descriptor_at f 1) (runs_at (rpl_of (selector_at f 1)))
+test_holds tests.CsPresent f seg = given (descriptor_at f 1) is_present
+test_holds tests.SsWritable f seg = not (is_null_selector (selector_at f 2)) && given (descriptor_at f 2) is_writable
+test_holds tests.SsPrivilege f seg = rpl_of (selector_at f 2) == new_cpl f && given (descriptor_at f 2) (has_level (new_cpl f))
+test_holds tests.SsPresent f seg = given (descriptor_at f 2) is_present
+test_holds tests.DataReadable f seg = is_null_selector (selector_at f seg) || given (descriptor_at f seg) is_readable
+test_holds tests.DataPrivilege f seg =
+    is_null_selector (selector_at f seg) || given (descriptor_at f seg) (may_be_data_from (new_cpl f) (rpl_of (selector_at f seg)))
+test_holds tests.DataPresent f seg = is_null_selector (selector_at f seg) || given (descriptor_at f seg) is_present
+test_holds tests.EipInLimit f seg = given (descriptor_at f 1) (holds_offset f.eip)

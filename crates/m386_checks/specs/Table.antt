@@ -1,0 +1,91 @@
+-- The check table of a task switch, and what its columns say.
+use Rattle.std.specs.Prelude.{ℕ, List, [], ◌∷◌, Some}
+use Rattle.m386_base.specs.declared.fault.Fault.{Fault}
+use Rattle.m386_desc.specs.Selector.{code_of}
+use Rattle.m386_checks.specs.declared.facts.Context.{Context}
+use Rattle.m386_checks.specs.declared.facts.Context.TheVariants.{Old, New}
+use Rattle.m386_checks.specs.declared.facts.Fail.{Fail}
+use Rattle.m386_checks.specs.declared.facts.Facts.{Facts}
+use Rattle.m386_checks.specs.declared.facts.SwitchKind.{SwitchKind}
+use Rattle.m386_checks.specs.declared.facts.SwitchKind.TheVariants as switches
+use Rattle.m386_checks.specs.declared.table.Exception.{Exception}
+use Rattle.m386_checks.specs.declared.table.Exception.TheVariants as raises
+use Rattle.m386_checks.specs.declared.table.Row.{Row}
+use Rattle.m386_checks.specs.declared.table.Subject.{Subject}
+use Rattle.m386_checks.specs.declared.table.Subject.TheVariants as names
+use Rattle.m386_checks.specs.declared.table.Test.{Test}
+use Rattle.m386_checks.specs.declared.table.Test.TheVariants as tests
+use Rattle.m386_checks.specs.Holds.{selector_at}
+
+abbrev pub row : ℕ → Test → Exception → Subject → Context → Row
+row number test exception subject context =
+    record { number = number; test = test; exception = exception; subject = subject; context = context }
+
+-- The rows: number, test, exception, the selector that the error code names, and the task that is told.
+-- Source: Intel 80386 PRM 7.5; the rows: docs/DECISIONS.md, "The check table of a task switch"
+abbrev pub check_table : List Row
+check_table =
+    row 1 tests.TrUsable raises.Gp names.Nothing Old
+    ∷ row 2 tests.TssInGdt raises.ByKind names.Tss Old
+    ∷ row 3 tests.TssOf386 raises.ByKind names.Tss Old
+    ∷ row 4 tests.TssPrivilege raises.ByKind names.Tss Old
+    ∷ row 5 tests.TssState raises.ByKind names.Tss Old
+    ∷ row 6 tests.TssPresent raises.Np names.Tss Old
+    ∷ row 7 tests.TssLimit raises.Ts names.Tss Old
+    ∷ row 8 tests.LdtInGdt raises.Ts names.Ldt New
+    ∷ row 9 tests.LdtPresent raises.Ts names.Ldt New
+    ∷ row 10 tests.CsCode raises.Ts names.Cs New
+    ∷ row 11 tests.CsPrivilege raises.Ts names.Cs New
+    ∷ row 12 tests.CsPresent raises.Np names.Cs New
+    ∷ row 13 tests.SsWritable raises.Ts names.Ss New
+    ∷ row 14 tests.SsPrivilege raises.Ts names.Ss New
+    ∷ row 15 tests.SsPresent raises.Ss names.Ss New
+    ∷ row 16 tests.DataReadable raises.Ts names.Data New
+    ∷ row 17 tests.DataPrivilege raises.Ts names.Data New
+    ∷ row 18 tests.DataPresent raises.Np names.Data New
+    ∷ row 19 tests.EipInLimit raises.Gp names.Nothing New ∷ []
+
+-- the exception where it depends on what makes the switch
+abbrev pub vector_by_kind : SwitchKind → ℕ
+vector_by_kind switches.Jmp = 13
+vector_by_kind switches.Call = 13
+vector_by_kind switches.Event = 10
+vector_by_kind switches.Iret = 10
+vector_by_kind switches.Start = 10
+
+-- The vector of an exception.
+-- Source: Intel 80386 PRM 9.8
+abbrev pub vector_of : Exception → SwitchKind → ℕ
+vector_of raises.Ts kind = 10
+vector_of raises.Np kind = 11
+vector_of raises.Ss kind = 12
+vector_of raises.Gp kind = 13
+vector_of raises.ByKind kind = vector_by_kind kind
+
+-- the segment register that a row speaks of, where `turn` is the data segment register whose turn it is
+abbrev pub seg_of : Subject → ℕ → ℕ
+seg_of names.Nothing turn = 0
+seg_of names.Tss turn = 0
+seg_of names.Ldt turn = 0
+seg_of names.Cs turn = 1
+seg_of names.Ss turn = 2
+seg_of names.Data turn = turn
+
+-- The error code: it names the selector that the row speaks of, and has EXT as bit 0. Where it names none it is 0.
+-- Source: Intel 80386 PRM 9.7; the code 0: docs/DECISIONS.md, "Fault codes"
+abbrev pub error_code_of : Subject → Facts → ℕ → ℕ
+error_code_of names.Nothing f turn = 0
+error_code_of names.Tss f turn = code_of f.selector f.ext
+error_code_of names.Ldt f turn = code_of f.ldt f.ext
+error_code_of names.Cs f turn = code_of (selector_at f 1) f.ext
+error_code_of names.Ss f turn = code_of (selector_at f 2) f.ext
+error_code_of names.Data f turn = code_of (selector_at f turn) f.ext
+
+-- how a row fails
+abbrev pub fail_of : Facts → Row → ℕ → Fail
+fail_of f row turn = record {
+  row = row.number;
+  seg = seg_of row.subject turn;
+  fault = record { vector = vector_of row.exception f.kind; code = Some (error_code_of row.subject f turn) };
+  context = row.context;
+}
