@@ -1,5 +1,5 @@
 -- The checks that a search has yet to make.
-use Rattle.std.proofs.Common.{◌≡◌, ℕ, ◌+◌, ◌<◌, ◌≤◌, List, [], ◌∷◌, ◌++◌, length, drop, map, get_or, refl, arith, add-one, drop-cons, Bool, true, false, cond, Option, Some, None}
+use Rattle.std.proofs.Common.{◌≡◌, ℕ, ◌+◌, ◌<◌, ◌≤◌, List, [], ◌∷◌, ◌++◌, length, drop, get_or, refl, add-one, drop-cons, Bool, true, false, cond, Some, None}
 use Rattle.std.proofs.lemmas.List.{drop_all}
 use Rattle.m386_checks.specs.declared.facts.Context.TheVariants.{Old}
 use Rattle.m386_checks.specs.declared.facts.Fail.{Fail}
@@ -8,7 +8,7 @@ use Rattle.m386_checks.specs.declared.table.Exception.TheVariants as raises
 use Rattle.m386_checks.specs.declared.table.Row.{Row}
 use Rattle.m386_checks.specs.declared.table.Subject.TheVariants as names
 use Rattle.m386_checks.specs.declared.table.Test.TheVariants as tests
-use Rattle.m386_checks.specs.First.{first_false, for_segment, for_segments, data_segments}
+use Rattle.m386_checks.specs.First.{first_false, for_segment, for_segments}
 use Rattle.m386_checks.specs.Holds.{test_holds}
 use Rattle.m386_checks.specs.Table.{row, fail_of}
 

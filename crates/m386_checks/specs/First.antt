@@ -1,5 +1,7 @@
 -- The order of the checks, and the first that fails.
-use Rattle.std.specs.Prelude.{ℕ, List, [], ◌∷◌, ◌++◌, take, drop, map, slice_range, if◌then◌else◌, Option, Some, None}
+use Rattle.std.specs.Prelude.{ℕ, List, [], ◌∷◌, ◌++◌, map, slice_range, if◌then◌else◌, nat_le, IsTrue, Option, Some, None}
+use Rattle.m386_checks.specs.declared.facts.Context.{Context}
+use Rattle.m386_checks.specs.declared.facts.Context.TheVariants.{Old, New}
 use Rattle.m386_checks.specs.declared.facts.Fail.{Fail}
 use Rattle.m386_checks.specs.declared.facts.Facts.{Facts}
 use Rattle.m386_checks.specs.declared.table.Row.{Row}
@@ -30,6 +32,16 @@ in_order rows =
 unfoldable pub first_false : Facts → List (Row × ℕ) → Option Fail
 first_false f [] = None
 first_false f (check ∷ rest) = if test_holds check.0.test f check.1 then first_false f rest else Some (fail_of f check.0 check.1)
+
+-- each of these checks holds
+unfoldable pub AllHold : Facts → List (Row × ℕ) → Type 0
+AllHold f [] = Unit {0}
+AllHold f (check ∷ rest) = IsTrue (test_holds check.0.test f check.1) × AllHold f rest
+
+-- Rows 1 to 7 are reported in the old task, and the others in the new one.
+-- Own choice: docs/DECISIONS.md, "The check table of a task switch"
+abbrev pub context_of : ℕ → Context
+context_of number = if nat_le number 7 then Old else New
 
 -- The first check of a task switch that fails, or None where all hold.
 -- Source: Intel 80386 PRM 7.5; the rows: docs/DECISIONS.md, "The check table of a task switch"

@@ -1,6 +1,5 @@
 -- The check table of a task switch, and what its columns say.
 use Rattle.std.specs.Prelude.{ℕ, List, [], ◌∷◌, Some}
-use Rattle.m386_base.specs.declared.fault.Fault.{Fault}
 use Rattle.m386_desc.specs.Selector.{code_of}
 use Rattle.m386_checks.specs.declared.facts.Context.{Context}
 use Rattle.m386_checks.specs.declared.facts.Context.TheVariants.{Old, New}

@@ -1,9 +1,9 @@
 //! The first check of a task switch that fails.
-ghost use Rattle.std.specs.Prelude.{◌≡◌, ◌<◌, length, take};
-ghost use Rattle.m386_checks.specs.First.{first_false, first_fail_of, old_fail_of, for_segment, for_segments, data_segments, in_order};
-ghost use Rattle.m386_checks.specs.Table.{vector_of, error_code_of, seg_of, fail_of};
+ghost use Rattle.std.specs.Prelude.{◌≡◌, ◌<◌, ◌↔◌, IsNone, IfSome, OnSome, length};
+ghost use Rattle.m386_checks.specs.First.{AllHold, context_of, first_false, first_fail_of, old_fail_of, for_segment, for_segments, data_segments, in_order};
+ghost use Rattle.m386_checks.specs.Table.{check_table, vector_of, error_code_of, seg_of, fail_of};
 
-use crate::facts::{Fail, Facts, SwitchKind};
+use crate::facts::{Facts, Fail, SwitchKind};
 use crate::holds::{CS, SS, holds, selector};
 use crate::table::{Exception, ROWS, Row, Subject};
 use m386_base::fault::Fault;
@@ -16,7 +16,9 @@ const DATA_SEGMENTS: [u8; 4] = [3, 0, 4, 5];
 /// where all hold (PRM 7.5).
 #[tactic(auto, unfolding(crate::specs::First::first_fail_of))]
 pub fn first_fail(facts: &Facts) -> Option<Fail>
-    ensures { result ≡ first_fail_of facts.now }
+    ensures exact { result ≡ first_fail_of facts.now }
+    ensures none { IsNone result ↔ AllHold facts.now (in_order check_table) }
+    ensures context { IfSome result (λ x. x.context ≡ context_of x.row) }
 {
     first_of_table(&ROWS, facts)
 }
@@ -24,7 +26,8 @@ pub fn first_fail(facts: &Facts) -> Option<Fail>
 /// The first check that fails among those made in the old task, rows 1 to 7. `None` exactly where these hold (PRM 7.5).
 #[tactic(auto, unfolding(crate::specs::First::old_fail_of))]
 pub fn old_fail(facts: &Facts) -> Option<Fail>
-    ensures { result ≡ old_fail_of facts.now }
+    ensures exact { result ≡ old_fail_of facts.now }
+    ensures first { OnSome result (result ≡ first_fail_of facts.now) }
 {
     first_of_rows(&ROWS[..7], facts, 0)
 }

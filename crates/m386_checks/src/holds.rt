@@ -26,7 +26,8 @@ pub fn holds(test: Test, facts: &Facts, seg: u8) -> bool
         Test::TrUsable => facts.kind == SwitchKind::Start || facts.tr_usable,
         Test::TssInGdt => !is_null(facts.selector) && !in_ldt(facts.selector) && facts.in_gdt,
         Test::TssOf386 => of_386(facts.tss),
-        Test::TssPrivilege => !(facts.direct && jumps(facts.kind)) || reached(facts.tss, facts.cpl, facts.rpl),
+        Test::TssPrivilege => !(facts.direct && jumps(facts.kind))
+            || reached(facts.tss, facts.cpl, facts.rpl),
         Test::TssState => marked(facts.tss, facts.kind == SwitchKind::Iret),
         Test::TssPresent => is_there(facts.tss),
         Test::TssLimit => long_enough(facts.tss),
@@ -36,12 +37,17 @@ pub fn holds(test: Test, facts: &Facts, seg: u8) -> bool
         Test::CsPrivilege => runs(descriptor(facts, CS), rpl(selector(facts, CS))),
         Test::CsPresent => is_there(descriptor(facts, CS)),
         Test::SsWritable => !is_null(selector(facts, SS)) && writable(descriptor(facts, SS)),
-        Test::SsPrivilege => rpl(selector(facts, SS)) == level(facts) && of_level(descriptor(facts, SS), level(facts)),
+        Test::SsPrivilege => rpl(selector(facts, SS)) == level(facts)
+            && of_level(descriptor(facts, SS), level(facts)),
         Test::SsPresent => is_there(descriptor(facts, SS)),
         Test::DataReadable => is_null(selector(facts, seg)) || readable(descriptor(facts, seg)),
         Test::DataPrivilege => {
             is_null(selector(facts, seg))
-                || usable(descriptor(facts, seg), level(facts), rpl(selector(facts, seg)))
+                || usable(
+                    descriptor(facts, seg),
+                    level(facts),
+                    rpl(selector(facts, seg)),
+                )
         }
         Test::DataPresent => is_null(selector(facts, seg)) || is_there(descriptor(facts, seg)),
         Test::EipInLimit => inside(descriptor(facts, CS), facts.eip),
@@ -156,7 +162,11 @@ fn runs(desc: Option<Desc>, level: u8) -> bool
     ensures { result ≡ given desc (runs_at level) }
 {
     match desc {
-        Some(d) => if kind(&d).is_conforming() { dpl(&d) <= level } else { dpl(&d) == level },
+        Some(d) => if kind(&d).is_conforming() {
+            dpl(&d) <= level
+        } else {
+            dpl(&d) == level
+        },
         None => false,
     }
 }

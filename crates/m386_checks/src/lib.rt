@@ -3,5 +3,7 @@
 
 pub mod facts;
 pub mod first;
-pub mod holds;
+mod holds;
 pub mod table;
+#[cfg(test)]
+mod tests;

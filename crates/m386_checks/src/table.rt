@@ -132,9 +132,6 @@ pub const ROWS: [Row; 19] = rows![
 /// The constant is the table of the definition, and its rows are numbered from 1 to 19 in order.
 pub fn rows_are_in_order()
     ensures table { ROWS ≡ check_table }
-    ensures numbers {
-        map (λ r. r.number) ROWS
-        ≡ 1 ∷ 2 ∷ 3 ∷ 4 ∷ 5 ∷ 6 ∷ 7 ∷ 8 ∷ 9 ∷ 10 ∷ 11 ∷ 12 ∷ 13 ∷ 14 ∷ 15 ∷ 16 ∷ 17 ∷ 18 ∷ 19 ∷ []
-    }
-{
-}
+    ensures numbers { map (λ r. r.number) ROWS
+        ≡ 1 ∷ 2 ∷ 3 ∷ 4 ∷ 5 ∷ 6 ∷ 7 ∷ 8 ∷ 9 ∷ 10 ∷ 11 ∷ 12 ∷ 13 ∷ 14 ∷ 15 ∷ 16 ∷ 17 ∷ 18 ∷ 19 ∷ [] }
+{}
