@@ -7,7 +7,7 @@ use Rattle.m386_checks.specs.declared.facts.Context.TheVariants.{Old, New}
 use Rattle.m386_checks.specs.declared.facts.Fail.{Fail}
 use Rattle.m386_checks.specs.declared.facts.Facts.{Facts}
 use Rattle.m386_checks.specs.declared.table.Row.{Row}
-use Rattle.m386_checks.specs.First.{first_false, first_fail_of, old_fail_of, for_segment, for_segments, data_segments, in_order, AllHold, context_of}
+use Rattle.m386_checks.specs.First.{first_false, first_fail_of, old_fail_of, for_segment, for_segments, data_segments, in_order, AllHold, AllChecksHold, context_of}
 use Rattle.m386_checks.specs.Holds.{test_holds}
 use Rattle.m386_checks.specs.Table.{check_table, fail_of}
 use Rattle.m386_checks.proofs.Order.{first_now, first_later}
@@ -97,7 +97,8 @@ pub later_is_new : (f : Facts) (x : Fail) → old_fail_of f ≡ None → first_f
 unfolding old_fail_of first_fail_of for_segments is_new is_old
 later_is_new f x h e = new-first f new_checks x refl (sym (first_later f old_checks new_checks h) ∙ e)
 
-pub first_none : (f : Facts) (o : Option Fail) → o ≡ first_false f (in_order check_table) → IsNone o ↔ AllHold f (in_order check_table)
+pub first_none : (f : Facts) (o : Option Fail) → o ≡ first_false f (in_order check_table) → IsNone o ↔ AllChecksHold f
+unfolding AllChecksHold
 first_none f None e = (λ h. none-all_hold f _ (sym e), λ all. refl)
 first_none f (Some x) e = (λ h. cc, λ all. absurd (let wrong : Some x ≡ None = e ∙ all_hold-none f _ all in cc))
 

@@ -38,6 +38,11 @@ unfoldable pub AllHold : Facts → List (Row × ℕ) → Type 0
 AllHold f [] = Unit {0}
 AllHold f (check ∷ rest) = IsTrue (test_holds check.0.test f check.1) × AllHold f rest
 
+-- All checks of a task switch hold.
+-- Source: Intel 80386 PRM 7.5; the rows: docs/DECISIONS.md, "The check table of a task switch"
+unfoldable pub AllChecksHold : Facts → Type 0
+AllChecksHold f = AllHold f (in_order check_table)
+
 -- Rows 1 to 7 are reported in the old task, and the others in the new one.
 -- Own choice: docs/DECISIONS.md, "The check table of a task switch"
 abbrev pub context_of : ℕ → Context

@@ -3,8 +3,7 @@ use Rattle.std.specs.Prelude.{ℕ, Bool, true, false, not, ◌&&◌, ◌||◌, �
 use Rattle.m386_base.specs.declared.desc.Desc.{Desc}
 use Rattle.m386_desc.specs.declared.kind.Kind.{Kind}
 use Rattle.m386_desc.specs.declared.kind.Kind.TheVariants as kinds
-use Rattle.m386_desc.specs.Access.{dpl_of, is_present, is_code_32, kind_of}
-use Rattle.m386_desc.specs.Kind.{is_conforming_kind, is_readable_kind, is_writable_kind}
+use Rattle.m386_desc.specs.Access.{dpl_of, is_present, is_code_32, is_conforming, is_readable, is_writable, kind_of}
 use Rattle.m386_desc.specs.Offsets.{limit_of, are_offsets}
 use Rattle.m386_desc.specs.Selector.{rpl_of, names_ldt, is_null_selector}
 use Rattle.m386_checks.specs.declared.facts.Facts.{Facts}
@@ -74,15 +73,6 @@ has_all_fields d = nat_le 103 (limit_of d)
 
 abbrev pub is_ldt : Desc → Bool
 is_ldt d = is_ldt_kind (kind_of d)
-
-abbrev pub is_conforming : Desc → Bool
-is_conforming d = is_conforming_kind (kind_of d)
-
-abbrev pub is_readable : Desc → Bool
-is_readable d = is_readable_kind (kind_of d)
-
-abbrev pub is_writable : Desc → Bool
-is_writable d = is_writable_kind (kind_of d)
 
 -- code that runs at this level
 abbrev pub runs_at : ℕ → Desc → Bool

@@ -1,7 +1,7 @@
 //! The first check of a task switch that fails.
 ghost use Rattle.std.specs.Prelude.{◌≡◌, ◌<◌, ◌↔◌, IsNone, IfSome, OnSome, length};
-ghost use Rattle.m386_checks.specs.First.{AllHold, context_of, first_false, first_fail_of, old_fail_of, for_segment, for_segments, data_segments, in_order};
-ghost use Rattle.m386_checks.specs.Table.{check_table, vector_of, error_code_of, seg_of, fail_of};
+ghost use Rattle.m386_checks.specs.First.{AllChecksHold, context_of, first_false, first_fail_of, old_fail_of, for_segment, for_segments, data_segments, in_order};
+ghost use Rattle.m386_checks.specs.Table.{vector_of, error_code_of, seg_of, fail_of};
 
 use crate::facts::{Facts, Fail, SwitchKind};
 use crate::holds::{CS, SS, holds, selector};
@@ -17,7 +17,7 @@ const DATA_SEGMENTS: [u8; 4] = [3, 0, 4, 5];
 #[tactic(auto, unfolding(crate::specs::First::first_fail_of))]
 pub fn first_fail(facts: &Facts) -> Option<Fail>
     ensures exact { result ≡ first_fail_of facts.now }
-    ensures none { IsNone result ↔ AllHold facts.now (in_order check_table) }
+    ensures none { IsNone result ↔ AllChecksHold facts.now }
     ensures context { IfSome result (λ x. x.context ≡ context_of x.row) }
 {
     first_of_table(&ROWS, facts)

@@ -3,6 +3,7 @@ use Rattle.std.specs.Prelude.{ℕ, ◌/◌, ◌%◌, ◌^◌, Bool, true, false,
 use Rattle.m386_base.specs.declared.desc.Desc.{Desc}
 use Rattle.m386_desc.specs.declared.kind.Kind.{Kind}
 use Rattle.m386_desc.specs.declared.kind.Kind.TheVariants as kinds
+use Rattle.m386_desc.specs.Kind.{is_conforming_kind, is_readable_kind, is_writable_kind}
 
 -- bit k of a number is set
 abbrev pub has_bit : ℕ → ℕ → Bool
@@ -56,3 +57,15 @@ is_code_kind _ = false
 -- Own choice: docs/DECISIONS.md, "Code segments with D = 0"
 unfoldable pub is_code_32 : Desc → Bool
 is_code_32 d = is_code_kind (kind_of d) && is_big d
+
+-- conforming code
+abbrev pub is_conforming : Desc → Bool
+is_conforming d = is_conforming_kind (kind_of d)
+
+-- what may be read as data: data, and readable code
+abbrev pub is_readable : Desc → Bool
+is_readable d = is_readable_kind (kind_of d)
+
+-- what may be written: writable data
+abbrev pub is_writable : Desc → Bool
+is_writable d = is_writable_kind (kind_of d)

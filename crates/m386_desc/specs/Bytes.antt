@@ -8,7 +8,7 @@ abbrev pub doubleword : ℕ → List ℕ
 doubleword n = n % 2 ^ 8 ∷ n / 2 ^ 8 % 2 ^ 8 ∷ n / 2 ^ 16 % 2 ^ 8 ∷ n / 2 ^ 24 % 2 ^ 8 ∷ []
 
 -- the eight bytes of two doublewords, the low one first
-abbrev pub two_doublewords : ℕ → ℕ → List ℕ
+unfoldable pub two_doublewords : ℕ → ℕ → List ℕ
 two_doublewords lo hi = doubleword lo ++ doubleword hi
 
 -- The descriptor that stands in eight bytes: the base in bytes 2, 3, 4 and 7; the limit in bytes 0 and 1 and in the low

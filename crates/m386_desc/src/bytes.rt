@@ -5,7 +5,7 @@ ghost use Rattle.m386_desc.specs.Bytes.{descriptor_in, bytes_of, two_doublewords
 use m386_base::desc::Desc;
 
 /// The descriptor that stands in two doublewords, the low one first (PRM 5.1.1).
-#[tactic(auto, unfolding(crate::specs::Bytes::descriptor_in, crate::specs::Bytes::bytes_of))]
+#[tactic(auto, unfolding(crate::specs::Bytes::descriptor_in, crate::specs::Bytes::bytes_of, crate::specs::Bytes::two_doublewords))]
 pub fn desc_of(lo: u32, hi: u32) -> Desc
     ensures exact { result ≡ descriptor_in (two_doublewords lo hi) }
     ensures inverse { bytes_of result ≡ two_doublewords lo hi }

@@ -18,7 +18,7 @@ impl Gate4 {
     ghost use Rattle.m386_desc.specs.Bytes.{two_doublewords};
 
     /// The gate that stands in two doublewords, the low one first.
-    #[tactic(auto, unfolding(crate::specs::Gate::gate_in))]
+    #[tactic(auto, unfolding(crate::specs::Gate::gate_in, crate::specs::Bytes::two_doublewords))]
     pub fn of(lo: u32, hi: u32) -> Gate4
         ensures { result ≡ gate_in (two_doublewords lo hi) }
     {

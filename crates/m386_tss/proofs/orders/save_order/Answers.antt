@@ -1,4 +1,5 @@
 use Rattle.std.proofs.Common.{◌≡◌, ◌-◌, length, arith}
+use Rattle.m386_tss.specs.Orders.{saved_fields}
 use Rattle.m386_tss.proofs.Rising.{rising_from, length-grown}
 use Rattle.m386_tss.proofs.orders.save_order.Goals as goal
 
@@ -15,7 +16,7 @@ push-requires c =
 
 -- src/orders.rt:10:1
 pub returns : goal.returns
-unfolding rising_from
+unfolding rising_from saved_fields
 returns c =
     let end : c.loop-number.number ≡ 24 = omega arith in
     rw end at c.loop-number.invariant
