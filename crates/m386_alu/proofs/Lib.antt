@@ -1,0 +1,3 @@
+pub mod BitPlaces
+pub mod Signs
+pub mod Carries

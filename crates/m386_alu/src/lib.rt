@@ -1,0 +1,9 @@
+//! Arithmetic, logic, shifts, bit tests, products and quotients of the 80386, as functions of plain values. Each answers a
+//! result and the flags register after it. None takes memory.
+#![tactic(auto)]
+
+pub mod arithmetic;
+pub mod flags;
+mod logic;
+mod sums;
+pub mod width;
