@@ -1,4 +1,5 @@
 pub mod Arithmetic
+pub mod BitTests
 pub mod Flags
 pub mod Sums
 pub mod Width

@@ -4,6 +4,7 @@
 
 pub mod arithmetic;
 pub mod flags;
+pub mod bit_tests;
 mod logic;
 mod sums;
 pub mod width;
