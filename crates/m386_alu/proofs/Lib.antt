@@ -1,3 +1,4 @@
 pub mod BitPlaces
 pub mod Signs
 pub mod Carries
+pub mod Results

@@ -29,9 +29,8 @@ pub enum AluOp {
     Cmp,
 }
 
-/// The result of an operation on two operands of a width, and the flags after it (PRM 3.2.1, 3.2.2, 3.4.1). CMP answers the
-/// difference too, which its caller doesn't store. It takes no memory.
-pub fn alu(op: AluOp, width: Width, a: u32, b: u32, flags: Flags) -> (u32, Flags)
+/// The result of an operation on two operands, and the flags after it.
+fn calculate(op: AluOp, width: Width, a: u32, b: u32, flags: Flags) -> (u32, Flags)
     requires a_fits { a < 2 ^ bits width }
     requires b_fits { b < 2 ^ bits width }
     ensures { result ≡ alu_of op width a b flags }
@@ -45,4 +44,15 @@ pub fn alu(op: AluOp, width: Width, a: u32, b: u32, flags: Flags) -> (u32, Flags
         AluOp::Sub | AluOp::Cmp => difference(width, a, b, 0, flags),
         AluOp::Xor => logic(width, a ^ b, flags),
     }
+}
+
+/// The result of an operation on two operands of a width, and the flags after it (PRM 3.2.1, 3.2.2, 3.4.1). CMP answers the
+/// difference too, which its caller doesn't store. It takes no memory.
+pub fn alu(op: AluOp, width: Width, a: u32, b: u32, flags: Flags) -> (u32, Flags)
+    requires a_fits { a < 2 ^ bits width }
+    requires b_fits { b < 2 ^ bits width }
+    ensures exact { result ≡ alu_of op width a b flags }
+    ensures fits { result.0 < 2 ^ bits width }
+{
+    calculate(op, width, a, b, flags)
 }
