@@ -2,3 +2,4 @@ pub mod BitPlaces
 pub mod Signs
 pub mod Carries
 pub mod Results
+pub mod Moves

@@ -42,3 +42,9 @@ two_halves n h =
 -- less than twice a modulus
 pub mod_once : (x m : ℕ) → m ≤ x → x < 2 * m → x % m ≡ x - m
 mod_once x m h k = mod-eq-sub-mod h ∙ mod-eq_of_lt (omega arith)
+
+pub when_set : (n a : ℕ) → is_negative n a ≡ true → 2 ^ (n - 1) ≤ a
+when_set n a h = grind (arith, nat_tests)
+
+pub when_clear : (n a : ℕ) → is_negative n a ≡ false → a < 2 ^ (n - 1)
+when_clear n a h = grind (arith, nat_tests)

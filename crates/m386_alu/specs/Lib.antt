@@ -1,5 +1,7 @@
 pub mod Arithmetic
 pub mod BitTests
 pub mod Flags
+pub mod Shifts
 pub mod Sums
+pub mod Turns
 pub mod Width

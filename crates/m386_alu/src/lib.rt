@@ -6,5 +6,7 @@ pub mod arithmetic;
 pub mod flags;
 pub mod bit_tests;
 mod logic;
+mod rotates;
+pub mod shifts;
 mod sums;
 pub mod width;
