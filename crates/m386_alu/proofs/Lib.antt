@@ -3,3 +3,4 @@ pub mod Signs
 pub mod Carries
 pub mod Results
 pub mod Moves
+pub mod Turning

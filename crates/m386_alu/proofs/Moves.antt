@@ -41,7 +41,7 @@ shl_after n (suc k) a c z p h =
 pub pair_of : (p : ℕ × ℕ) (a b : ℕ) → p.0 ≡ a → p.1 ≡ b → p ≡ (a, b)
 pair_of p a b e f = rw (← e, ← f) refl
 
-half_more : (a k : ℕ) → a / 2 ^ k / 2 ≡ a / 2 ^ suc k
+pub half_more : (a k : ℕ) → a / 2 ^ k / 2 ≡ a / 2 ^ suc k
 half_more a k =
     let e : k + 1 ≡ suc k = omega arith in rw e at (shr-shr a k 1)
 

@@ -1,0 +1,23 @@
+use Rattle.std.proofs.Common.{arith, ◌≡◌, ℕ, ◌*◌, ◌/◌, ◌%◌, ◌-◌, ◌^◌, ◌<◌, ◌∙◌, ◌≤◌, bit_or, bit_and, sym, subst}
+use Rattle.std.proofs.lemmas.Nat.{mod_below}
+use Rattle.m386_alu.specs.Turns.{turn_left_once, turned_left}
+use Rattle.m386_alu.proofs.Turning.{left_code, left_fits, left_round, times_rest}
+use Rattle.m386_alu.proofs.rotates.turn_left.Goals as goal
+
+pub returns-clause-exact : goal.returns-clause-exact
+returns-clause-exact c =
+    let n = c.args.bits in
+    let k = c.args.count in
+    let b : 8 ≤ n = c.requires.bits.0 in
+    let below : k % n < n = mod_below k n (omega arith) in
+    left_code n c.args.number (k % n) (omega arith) c.requires.bits.1 below (omega arith) c.requires.fits
+    ∙ times_rest (turn_left_once n) n c.args.number k (left_round n c.args.number (omega arith) c.requires.fits)
+
+pub returns-clause-fits : goal.returns-clause-fits
+returns-clause-fits c =
+    let n = c.args.bits in
+    let k = c.args.count in
+    let b : 8 ≤ n = c.requires.bits.0 in
+    let below : k % n < n = mod_below k n (omega arith) in
+    let e = left_code n c.args.number (k % n) (omega arith) c.requires.bits.1 below (omega arith) c.requires.fits in
+    rw e (left_fits n (k % n) c.args.number (omega arith) (omega arith) c.requires.fits)
