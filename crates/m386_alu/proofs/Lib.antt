@@ -4,3 +4,4 @@ pub mod Carries
 pub mod Results
 pub mod Moves
 pub mod Turning
+pub mod Rotating

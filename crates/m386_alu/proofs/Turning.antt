@@ -157,3 +157,23 @@ pub left_fits : (n k x : ℕ) → 0 < n → k ≤ n → x < 2 ^ n → turned_lef
 left_fits n k x p h l =
     let P : ℕ → Type 0 = λ y. y < 2 ^ n in
     subst P (sym (left_is_right n k x p h l)) (right_fits n (n - k) x p l)
+
+left_once_fits : (n a : ℕ) → 0 < n → a < 2 ^ n → turn_left_once n a < 2 ^ n
+unfolding turn_left_once
+left_once_fits n a p h =
+    let two = two_halves n p in
+    ⊎_elim
+      (λ low.
+        let z : a / 2 ^ (n - 1) ≡ 0 = div-eq_of_lt low in
+        let m : a * 2 % 2 ^ n ≡ a * 2 = mod-eq_of_lt (omega arith) in
+        rw (z, m) (omega arith))
+      (λ high.
+        let o : a / 2 ^ (n - 1) ≡ 1 = top_is_one (2 ^ (n - 1)) a high (omega arith) in
+        let m : a * 2 % 2 ^ n ≡ a * 2 - 2 ^ n = mod_once (a * 2) (2 ^ n) (omega arith) (omega arith) in
+        rw (o, m) (omega arith))
+      (cases_lt a (2 ^ (n - 1)))
+
+pub left_all_fits : (n k a : ℕ) → 0 < n → a < 2 ^ n → turned_left n k a < 2 ^ n
+unfolding times
+left_all_fits n zero a p h = h
+left_all_fits n (suc k) a p h = left_once_fits n (turned_left n k a) p (left_all_fits n k a p h)
