@@ -10,7 +10,7 @@ use Rattle.m386_alu.proofs.Signs.{two_halves, mod_once}
 use Rattle.m386_alu.proofs.Moves.{pair_of, top_is_one}
 use Rattle.m386_alu.proofs.Turning.{left_all_fits, right_fits}
 
-rol_value : (n k a c : ℕ) → (shifted Rol n k (a, c)).0 ≡ turned_left n k a
+pub rol_value : (n k a c : ℕ) → (shifted Rol n k (a, c)).0 ≡ turned_left n k a
 unfolding times turn_left_once
 rol_value n zero a c = refl
 rol_value n (suc k) a c = rw (rol_value n k a c) refl
@@ -41,7 +41,7 @@ pub rol_after : (n k a c : ℕ) → 0 < k → 0 < n → a < 2 ^ n
 rol_after n zero a c z p h = absurd (omega arith)
 rol_after n (suc k) a c z p h = pair_of _ _ _ (rol_value n (suc k) a c) (rol_out n k a c p h)
 
-ror_value : (n k a c : ℕ) → (shifted Ror n k (a, c)).0 ≡ turned_right n k a
+pub ror_value : (n k a c : ℕ) → (shifted Ror n k (a, c)).0 ≡ turned_right n k a
 unfolding times turn_right_once
 ror_value n zero a c = refl
 ror_value n (suc k) a c = rw (ror_value n k a c) refl
@@ -125,7 +125,7 @@ twice n =
     let e : n + 1 - 1 ≡ n = omega arith in rw e at (two_halves (n + 1) (omega arith))
 
 -- RCL turns the number with the carry above it
-rcl_joined : (n k a c : ℕ) → 0 < n → a < 2 ^ n → c < 2 → AreJoined n (turned_left (n + 1) k (c * 2 ^ n + a)) (shifted Rcl n k (a, c))
+pub rcl_joined : (n k a c : ℕ) → 0 < n → a < 2 ^ n → c < 2 → AreJoined n (turned_left (n + 1) k (c * 2 ^ n + a)) (shifted Rcl n k (a, c))
 unfolding times turn_left_once
 rcl_joined n zero a c p h l = record { number = h; carry = l; joined = refl }
 rcl_joined n (suc k) a c p h l =
@@ -137,7 +137,7 @@ rcl_joined n (suc k) a c p h l =
     record { number = t.0; carry = t.1; joined = rw (← r.joined, twice n, e) (t.2 ∙ sym j) }
 
 -- RCR turns the number with the carry above it
-rcr_joined : (n k a c : ℕ) → 0 < n → a < 2 ^ n → c < 2 → AreJoined n (turned_right (n + 1) k (c * 2 ^ n + a)) (shifted Rcr n k (a, c))
+pub rcr_joined : (n k a c : ℕ) → 0 < n → a < 2 ^ n → c < 2 → AreJoined n (turned_right (n + 1) k (c * 2 ^ n + a)) (shifted Rcr n k (a, c))
 unfolding times turn_right_once
 rcr_joined n zero a c p h l = record { number = h; carry = l; joined = refl }
 rcr_joined n (suc k) a c p h l =

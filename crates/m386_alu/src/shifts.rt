@@ -116,12 +116,11 @@ pub fn put_sign_change(width: Width, count: u32, before: u32, after: u32, flags:
     }
 }
 
-/// A shift or rotate of a number of a width, and the flags after it (PRM 3.4.4). Of the count the low 5 bits count. After
-/// a single one OF says that the sign changed; after more it stays, and so does AF always (own choice). It takes no
-/// memory.
-pub fn shift(op: ShiftOp, width: Width, a: u32, count: u8, flags: Flags) -> (u32, Flags)
+/// A shift or rotate by the low 5 bits of a count, and the flags after it.
+#[tactic(auto, unfolding(crate::specs::Shifts::shift_of))]
+fn shift_by(op: ShiftOp, width: Width, a: u32, count: u8, flags: Flags) -> (u32, Flags)
     requires { a < 2 ^ bits width }
-    ensures exact { result ≡ shift_of op width a count flags }
+    ensures { result ≡ shift_of op width a count flags }
 {
     let count = count as u32 % 32;
     if count == 0 {
@@ -129,4 +128,15 @@ pub fn shift(op: ShiftOp, width: Width, a: u32, count: u8, flags: Flags) -> (u32
     } else {
         shift_some(op, width, a, count, flags)
     }
+}
+
+/// A shift or rotate of a number of a width, and the flags after it (PRM 3.4.4). Of the count the low 5 bits count. After
+/// a single one OF says that the sign changed; after more it stays, and so does AF always (own choice). It takes no
+/// memory.
+pub fn shift(op: ShiftOp, width: Width, a: u32, count: u8, flags: Flags) -> (u32, Flags)
+    requires { a < 2 ^ bits width }
+    ensures exact { result ≡ shift_of op width a count flags }
+    ensures fits { result.0 < 2 ^ bits width }
+{
+    shift_by(op, width, a, count, flags)
 }
