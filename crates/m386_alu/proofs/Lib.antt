@@ -5,3 +5,4 @@ pub mod Results
 pub mod Moves
 pub mod Turning
 pub mod Rotating
+pub mod Doubling

@@ -1,7 +1,7 @@
 -- Results fit their width.
-use Rattle.std.proofs.Common.{arith, ◌≡◌, ℕ, ◌+◌, ◌-◌, ◌%◌, ◌^◌, ◌<◌, ◌/◌, ◌*◌, bit_and, bit_or, bit_xor, Bool, true, false, cond, ◌==◌, sym, subst, ⊎_elim}
+use Rattle.std.proofs.Common.{arith, ◌≡◌, ℕ, ◌+◌, ◌-◌, ◌%◌, ◌^◌, ◌<◌, ◌/◌, ◌*◌, bit_and, bit_or, bit_xor, Bool, true, false, cond, ◌==◌, ◌||◌, nat_lt, sym, subst, ⊎_elim}
 use Rattle.std.proofs.lemmas.Bool.{cases_lt}
-use Rattle.std.proofs.lemmas.Nat.{shr_le, or_lt, xor_lt, mod_below, pow_pos}
+use Rattle.std.proofs.lemmas.Nat.{shr_le, shr_below, or_lt, xor_lt, mod_below, pow_pos}
 use Rattle.std.specs.Int.Bits.{and_lt}
 use Rattle.m386_base.specs.declared.number.Flags.{Flags}
 use Rattle.m386_base.specs.declared.number.Width.{Width}
@@ -10,11 +10,13 @@ use Rattle.m386_alu.specs.declared.arithmetic.AluOp.TheVariants.{Add, Or, Adc, S
 use Rattle.m386_alu.specs.declared.shifts.ShiftOp.{ShiftOp}
 use Rattle.m386_alu.specs.declared.shifts.ShiftOp.TheVariants.{Rol, Ror, Rcl, Rcr, Shl, Shr, Sar}
 use Rattle.m386_alu.specs.Arithmetic.{alu_of, logic_of}
+use Rattle.m386_alu.specs.DoubleShifts.{shifted_left_into, shifted_right_into, after_double_shift, double_shift_of}
 use Rattle.m386_alu.specs.Flags.{carry_of}
 use Rattle.m386_alu.specs.Shifts.{shifted, shift_of, after_shift}
 use Rattle.m386_alu.specs.Sums.{sum_of, difference_of}
 use Rattle.m386_alu.specs.Width.{bits}
 use Rattle.m386_alu.proofs.Carries.{some_bits}
+use Rattle.m386_alu.proofs.Doubling.{both_fit}
 use Rattle.m386_alu.proofs.Moves.{shl_value, shr_value, sar_low, sar_high_value}
 use Rattle.m386_alu.proofs.Rotating.{rol_value, ror_value, rcl_joined, rcr_joined}
 use Rattle.m386_alu.proofs.Turning.{left_all_fits, right_fits}
@@ -72,3 +74,19 @@ shift_fits op w a count f h =
     let n = count % 32 in
     choice_fits (n == 0) (a, f) (after_shift op w a n (shifted op (bits w) n (a, carry_of f)) f) (2 ^ bits w) h
       (shifted_fits op (bits w) n a (carry_of f) (some_bits w) h (omega arith))
+
+into_fits : (left : Bool) (n k a b : ℕ) → a < 2 ^ n → b < 2 ^ n
+    → (cond left (shifted_left_into n k a b) (shifted_right_into n k a b)).0 < 2 ^ n
+into_fits true n k a b h l =
+    let d = a * 2 ^ n + b in
+    let v = shl_value (n + n) k d 0 (both_fit n a b h l) in
+    rw v (shr_below (d * 2 ^ k % 2 ^ (n + n)) n n (mod_below (d * 2 ^ k) (2 ^ (n + n)) (pow_pos (n + n))))
+into_fits false n k a b h l = mod_below _ (2 ^ n) (pow_pos n)
+
+pub double_shift_fits : (left : Bool) (w : Width) (a b count : ℕ) (f : Flags) → a < 2 ^ bits w → b < 2 ^ bits w
+    → (double_shift_of left w a b count f).0 < 2 ^ bits w
+unfolding double_shift_of
+double_shift_fits left w a b count f h l =
+    let n = count % 32 in
+    let p = cond left (shifted_left_into (bits w) n a b) (shifted_right_into (bits w) n a b) in
+    choice_fits (n == 0 || nat_lt (bits w) n) (a, f) (after_double_shift w a n p f) (2 ^ bits w) h (into_fits left (bits w) n a b h l)
