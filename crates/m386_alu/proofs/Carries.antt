@@ -11,7 +11,7 @@ use Rattle.std.specs.Int.{bit_at}
 use Rattle.m386_base.specs.declared.number.Width.{Width}
 use Rattle.m386_base.specs.declared.number.Width.TheVariants.{W8, W16, W32}
 use Rattle.m386_alu.specs.Width.{bits, signed, is_signed_number, is_negative}
-use Rattle.m386_alu.proofs.Signs.{is_signed, is_too_low, is_too_high, reads_positive, reads_negative, sign_set, sign_clear, two_halves, mod_once}
+use Rattle.m386_alu.proofs.Readings.{is_signed, is_too_low, is_too_high, reads_positive, reads_negative, sign_set, sign_clear, two_halves, mod_once}
 
 both_positive : (n a b c : ℕ) → 0 < n → a < 2 ^ (n - 1) → b < 2 ^ (n - 1) → c ≤ 1
     → not (is_signed_number n (signed n a +ℤ signed n b +ℤ pos c)) ≡ is_negative n ((a + b + c) % 2 ^ n)

@@ -1,8 +1,9 @@
 pub mod BitPlaces
-pub mod Signs
+pub mod Readings
 pub mod Carries
 pub mod Results
 pub mod Moves
 pub mod Turning
 pub mod Rotating
 pub mod Doubling
+pub mod Magnitudes

@@ -4,7 +4,7 @@ use Rattle.std.proofs.Math.Nat.{mod-eq_of_lt, div-eq_of_lt, div-eq_of_lt-le, mul
 use Rattle.std.proofs.lemmas.Nat.{mul-mod_first, field_of, shr-shr, pow_pos, shr_le}
 use Rattle.m386_alu.specs.declared.shifts.ShiftOp.TheVariants.{Shl, Shr, Sar}
 use Rattle.m386_alu.specs.Shifts.{times, shifted}
-use Rattle.m386_alu.proofs.Signs.{two_halves}
+use Rattle.m386_alu.proofs.Readings.{two_halves}
 
 -- one more factor of 2
 pub one_more_shift : (a k : ℕ) → a * 2 ^ suc k ≡ a * 2 ^ k * 2

@@ -6,7 +6,7 @@ use Rattle.std.proofs.lemmas.Nat.{mod_low, shr_high, pow_pos, div-mul-add, mod-m
 use Rattle.m386_alu.specs.declared.shifts.ShiftOp.TheVariants.{Rol, Ror, Rcl, Rcr}
 use Rattle.m386_alu.specs.Shifts.{times, shifted}
 use Rattle.m386_alu.specs.Turns.{turn_left_once, turn_right_once, turned_left, turned_right}
-use Rattle.m386_alu.proofs.Signs.{two_halves, mod_once}
+use Rattle.m386_alu.proofs.Readings.{two_halves, mod_once}
 use Rattle.m386_alu.proofs.Moves.{pair_of, top_is_one}
 use Rattle.m386_alu.proofs.Turning.{left_all_fits, right_fits}
 

@@ -5,7 +5,7 @@ use Rattle.std.proofs.lemmas.Bool.{cases_lt}
 use Rattle.std.proofs.lemmas.Nat.{mod-pow-add, shl-shr, pow-add, pow_pos, shr_le, shr_below, or_shifted, and_mask, one_shl, shl_whole, mod_below, div-add-mod'}
 use Rattle.m386_alu.specs.Shifts.{times}
 use Rattle.m386_alu.specs.Turns.{turn_left_once, turn_right_once, turned_left, turned_right}
-use Rattle.m386_alu.proofs.Signs.{two_halves, mod_once}
+use Rattle.m386_alu.proofs.Readings.{two_halves, mod_once}
 use Rattle.m386_alu.proofs.Moves.{top_is_one, half_more}
 
 -- one more place to the right, over plain numbers: r are the bits that left, q those that are there, b the next to leave

@@ -2,7 +2,9 @@ pub mod Arithmetic
 pub mod BitTests
 pub mod DoubleShifts
 pub mod Flags
+pub mod Products
 pub mod Shifts
+pub mod Signs
 pub mod Sums
 pub mod Turns
 pub mod Width

@@ -3,7 +3,7 @@ use Rattle.std.proofs.lemmas.Nat.{and_mask}
 use Rattle.m386_alu.specs.Width.{bits}
 use Rattle.m386_alu.proofs.Carries.{some_bits}
 use Rattle.m386_alu.proofs.Moves.{sar_high, sar_low}
-use Rattle.m386_alu.proofs.Signs.{when_set, when_clear}
+use Rattle.m386_alu.proofs.Readings.{when_set, when_clear}
 use Rattle.m386_alu.proofs.shifts.shift_right_signed.Goals as goal
 
 pub returns-then-has_sign : goal.returns-then-has_sign
