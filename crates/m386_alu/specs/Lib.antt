@@ -1,5 +1,6 @@
 pub mod Arithmetic
 pub mod BitTests
+pub mod Division
 pub mod DoubleShifts
 pub mod Flags
 pub mod Products

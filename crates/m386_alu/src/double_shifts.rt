@@ -1,20 +1,12 @@
 //! Double shifts: SHLD and SHRD.
-ghost use Rattle.std.specs.Prelude.{◌≡◌, ◌<◌, ◌≤◌, ◌^◌, ◌+◌, ◌*◌, if◌then◌else◌};
+ghost use Rattle.std.specs.Prelude.{◌≡◌, ◌<◌, ◌≤◌, ◌^◌, if◌then◌else◌};
 ghost use Rattle.m386_alu.specs.DoubleShifts.{shifted_left_into, shifted_right_into, after_double_shift, double_shift_of};
 ghost use Rattle.m386_alu.specs.Width.{bits};
 
 use crate::flags::{Flag, put_flag, put_result};
 use crate::shifts::put_sign_change;
-use crate::width::{bits_of, max_of};
+use crate::width::{bits_of, double, max_of};
 use m386_base::number::{Flags, Width};
-
-/// Two numbers of a width as one of twice the width.
-fn double(width: Width, upper: u32, lower: u32) -> u64
-    requires { lower < 2 ^ bits width }
-    ensures { result ≡ upper * 2 ^ bits width + lower }
-{
-    (upper as u64) << bits_of(width) | lower as u64
-}
 
 /// A number after SHLD, and CF: the bit moved out last.
 fn shift_left_into(width: Width, a: u32, b: u32, count: u32) -> (u32, u32)

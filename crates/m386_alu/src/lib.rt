@@ -3,6 +3,7 @@
 #![tactic(auto)]
 
 pub mod arithmetic;
+pub mod division;
 pub mod double_shifts;
 pub mod flags;
 pub mod bit_tests;

@@ -1,5 +1,5 @@
 //! The numbers of a width.
-ghost use Rattle.std.specs.Prelude.{◌≡◌, ◌-◌, ◌<◌, ◌^◌};
+ghost use Rattle.std.specs.Prelude.{◌≡◌, ◌+◌, ◌-◌, ◌*◌, ◌<◌, ◌^◌};
 ghost use Rattle.m386_alu.specs.Width.{bits, is_negative};
 
 use m386_base::number::Width;
@@ -31,4 +31,12 @@ pub fn has_sign(width: Width, number: u32) -> bool
     ensures { result ≡ is_negative (bits width) number }
 {
     number > max_of(width) / 2
+}
+
+/// Two numbers of a width as one of twice the width.
+pub fn double(width: Width, upper: u32, lower: u32) -> u64
+    requires { lower < 2 ^ bits width }
+    ensures { result ≡ upper * 2 ^ bits width + lower }
+{
+    (upper as u64) << bits_of(width) | lower as u64
 }

@@ -17,4 +17,4 @@ returns c =
     let rb = read_magnitude n b p c.requires.b_fits in
     let m = mul_signs (is_negative n a) (is_negative n b) (magnitude_of n a) (magnitude_of n b) in
     let two : 2 * n ≡ n + n = omega arith in
-    rw (ra, rb, m, c.with_sign.ensures, c.has_sign.ensures, c.has_sign-2.ensures, c.magnitude.ensures, c.magnitude-2.ensures, c.bits_of-bits.ensures, two) refl
+    rw (ra, rb, m, c.with_sign.ensures.exact, c.has_sign.ensures, c.has_sign-2.ensures, c.magnitude.ensures, c.magnitude-2.ensures, c.bits_of-bits.ensures, two) refl
