@@ -7,3 +7,4 @@ pub mod Turning
 pub mod Rotating
 pub mod Doubling
 pub mod Magnitudes
+pub mod Quotients
