@@ -1,5 +1,5 @@
 -- One bit of a number, put to a value.
-use Rattle.std.proofs.Common.{arith, ◌≡◌, ℕ, ◌+◌, ◌-◌, ◌*◌, ◌/◌, ◌%◌, ◌^◌, ◌<◌, true, false, not, ⊎_elim, bit_and, bit_or, bit_xor, sym, ◌∙◌, refl, Bool, subst}
+use Rattle.std.proofs.Common.{arith, ◌≡◌, ℕ, ◌+◌, ◌-◌, ◌*◌, ◌/◌, ◌%◌, ◌^◌, ◌<◌, true, false, not, ⊎_elim, bit_and, bit_or, bit_xor, Bool, subst}
 use Rattle.std.proofs.lemmas.Nat.{mod-pow-add, shr_split, and-not, and_comm, one_shl, pow_below, or_lt}
 use Rattle.std.proofs.lemmas.Nat.Bits.{and_pow, bit_at-lt}
 use Rattle.std.proofs.lemmas.Bool.{cases_lt}
@@ -51,13 +51,13 @@ flip_bit n k =
     let a = and_pow n k in
     let l = bit_at-lt n k in
     ⊎_elim
-      (λ low.
-        let z : n / 2 ^ k % 2 ≡ 0 = omega arith in
-        rw z (grind (arith, p, o, a)))
-      (λ high.
-        let z : n / 2 ^ k % 2 ≡ 1 = omega arith in
-        rw z (grind (arith, p, o, a)))
-      (cases_lt (n / 2 ^ k % 2) 1)
+    (λ low.
+    let z : n / 2 ^ k % 2 ≡ 0 = omega arith in
+    rw z (grind (arith, p, o, a)))
+    (λ high.
+    let z : n / 2 ^ k % 2 ≡ 1 = omega arith in
+    rw z (grind (arith, p, o, a)))
+    (cases_lt (n / 2 ^ k % 2) 1)
 
 cleared_fits : (n a k : ℕ) → a < 2 ^ n → put_bit a k false < 2 ^ n
 unfolding put_bit

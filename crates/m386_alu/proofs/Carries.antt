@@ -1,5 +1,5 @@
 -- What the flags of sums and differences say.
-use Rattle.std.proofs.Common.{arith, ◌≡◌, ℕ, ◌+◌, ◌-◌, ◌*◌, ◌/◌, ◌%◌, ◌^◌, ◌<◌, ◌≤◌, true, false, pos, neg_ℤ, ◌+ℤ◌, ◌-ℤ◌, ◌≤ℤ◌, ◌<ℤ◌, ℤ, not, cond, nat_eq, nat_lt, nat_le, bit_and, bit_xor, Bool, sym, ap, ◌∙◌, refl, ◌⊎◌, inl, inr, ⊎_elim}
+use Rattle.std.proofs.Common.{arith, ◌≡◌, ℕ, ◌+◌, ◌-◌, ◌*◌, ◌/◌, ◌%◌, ◌^◌, ◌<◌, ◌≤◌, true, false, pos, ◌+ℤ◌, ◌-ℤ◌, not, cond, nat_eq, nat_lt, nat_le, bit_and, bit_xor, Bool, sym, ◌∙◌, refl, ⊎_elim}
 use Rattle.std.proofs.Math.Nat.{mod-eq_of_lt}
 use Rattle.std.proofs.Math.Bool.{beq}
 use Rattle.std.proofs.lemmas.Int.{ints}
@@ -21,16 +21,16 @@ both_positive n a b c h ha hb hc =
     let rb = reads_positive n b hb in
     let v : (a + b + c) % 2 ^ n ≡ a + b + c = mod-eq_of_lt (omega arith) in
     rw v
-      (⊎_elim
-        (λ low.
-          let s = is_signed n (signed n a +ℤ signed n b +ℤ pos c) (omega (arith, ints)) (omega (arith, ints)) in
-          let t = sign_clear n (a + b + c) low in
-          rw (s, t) refl)
-        (λ high.
-          let s = is_too_high n (signed n a +ℤ signed n b +ℤ pos c) (omega (arith, ints)) in
-          let t = sign_set n (a + b + c) high in
-          rw (s, t) refl)
-        (cases_lt (a + b + c) (2 ^ (n - 1))))
+    (⊎_elim
+    (λ low.
+    let s = is_signed n (signed n a +ℤ signed n b +ℤ pos c) (omega (arith, ints)) (omega (arith, ints)) in
+    let t = sign_clear n (a + b + c) low in
+    rw (s, t) refl)
+    (λ high.
+    let s = is_too_high n (signed n a +ℤ signed n b +ℤ pos c) (omega (arith, ints)) in
+    let t = sign_set n (a + b + c) high in
+    rw (s, t) refl)
+    (cases_lt (a + b + c) (2 ^ (n - 1))))
 
 both_negative : (n a b c : ℕ) → 0 < n → 2 ^ (n - 1) ≤ a → 2 ^ (n - 1) ≤ b → c ≤ 1 → a < 2 ^ n → b < 2 ^ n
     → not (is_signed_number n (signed n a +ℤ signed n b +ℤ pos c)) ≡ not (is_negative n ((a + b + c) % 2 ^ n))
@@ -40,16 +40,16 @@ both_negative n a b c h ha hb hc fa fb =
     let rb = reads_negative n b hb in
     let v : (a + b + c) % 2 ^ n ≡ a + b + c - 2 ^ n = mod_once (a + b + c) (2 ^ n) (omega arith) (omega arith) in
     rw v
-      (⊎_elim
-        (λ low.
-          let s = is_too_low n (signed n a +ℤ signed n b +ℤ pos c) (omega (arith, ints)) in
-          let t = sign_clear n (a + b + c - 2 ^ n) low in
-          rw (s, t) refl)
-        (λ high.
-          let s = is_signed n (signed n a +ℤ signed n b +ℤ pos c) (omega (arith, ints)) (omega (arith, ints)) in
-          let t = sign_set n (a + b + c - 2 ^ n) high in
-          rw (s, t) refl)
-        (cases_lt (a + b + c - 2 ^ n) (2 ^ (n - 1))))
+    (⊎_elim
+    (λ low.
+    let s = is_too_low n (signed n a +ℤ signed n b +ℤ pos c) (omega (arith, ints)) in
+    let t = sign_clear n (a + b + c - 2 ^ n) low in
+    rw (s, t) refl)
+    (λ high.
+    let s = is_signed n (signed n a +ℤ signed n b +ℤ pos c) (omega (arith, ints)) (omega (arith, ints)) in
+    let t = sign_set n (a + b + c - 2 ^ n) high in
+    rw (s, t) refl)
+    (cases_lt (a + b + c - 2 ^ n) (2 ^ (n - 1))))
 
 -- operands of two signs have a sum that fits
 mixed : (n a b c : ℕ) → 0 < n → a < 2 ^ (n - 1) → 2 ^ (n - 1) ≤ b → c ≤ 1 → b < 2 ^ n
@@ -83,19 +83,19 @@ pub sum_overflow : (n a b c : ℕ) → 0 < n → c ≤ 1 → a < 2 ^ n → b < 2
 sum_overflow n a b c h hc fa fb =
     let v = is_negative n ((a + b + c) % 2 ^ n) in
     ⊎_elim
-      (λ la.
-        ⊎_elim
-          (λ lb.
-            rw (sign_clear n a la, sign_clear n b lb) (differs_from_false v ∙ sym (both_positive n a b c h la lb hc)))
-          (λ gb. rw (sign_clear n a la, sign_set n b gb, mixed n a b c h la gb hc fb) refl)
-          (cases_lt b (2 ^ (n - 1))))
-      (λ ga.
-        ⊎_elim
-          (λ lb. rw (sign_set n a ga, sign_clear n b lb, mixed_turned n a b c h ga lb hc fa) refl)
-          (λ gb.
-            rw (sign_set n a ga, sign_set n b gb) (differs_from_true v ∙ sym (both_negative n a b c h ga gb hc fa fb)))
-          (cases_lt b (2 ^ (n - 1))))
-      (cases_lt a (2 ^ (n - 1)))
+    (λ la.
+    ⊎_elim
+    (λ lb.
+    rw (sign_clear n a la, sign_clear n b lb) (differs_from_false v ∙ sym (both_positive n a b c h la lb hc)))
+    (λ gb. rw (sign_clear n a la, sign_set n b gb, mixed n a b c h la gb hc fb) refl)
+    (cases_lt b (2 ^ (n - 1))))
+    (λ ga.
+    ⊎_elim
+    (λ lb. rw (sign_set n a ga, sign_clear n b lb, mixed_turned n a b c h ga lb hc fa) refl)
+    (λ gb.
+    rw (sign_set n a ga, sign_set n b gb) (differs_from_true v ∙ sym (both_negative n a b c h ga gb hc fa fb)))
+    (cases_lt b (2 ^ (n - 1))))
+    (cases_lt a (2 ^ (n - 1)))
 
 -- every width has a bit
 pub some_bits : (w : Width) → 0 < bits w
@@ -128,16 +128,16 @@ positive_less n a b c h ha hb hc fb =
     let rb = reads_negative n b hb in
     let v : (a + 2 ^ n - (b + c)) % 2 ^ n ≡ a + 2 ^ n - (b + c) = mod-eq_of_lt (omega arith) in
     rw v
-      (⊎_elim
-        (λ low.
-          let s = is_signed n (signed n a -ℤ signed n b -ℤ pos c) (omega (arith, ints)) (omega (arith, ints)) in
-          let t = sign_clear n (a + 2 ^ n - (b + c)) low in
-          rw (s, t) refl)
-        (λ high.
-          let s = is_too_high n (signed n a -ℤ signed n b -ℤ pos c) (omega (arith, ints)) in
-          let t = sign_set n (a + 2 ^ n - (b + c)) high in
-          rw (s, t) refl)
-        (cases_lt (a + 2 ^ n - (b + c)) (2 ^ (n - 1))))
+    (⊎_elim
+    (λ low.
+    let s = is_signed n (signed n a -ℤ signed n b -ℤ pos c) (omega (arith, ints)) (omega (arith, ints)) in
+    let t = sign_clear n (a + 2 ^ n - (b + c)) low in
+    rw (s, t) refl)
+    (λ high.
+    let s = is_too_high n (signed n a -ℤ signed n b -ℤ pos c) (omega (arith, ints)) in
+    let t = sign_set n (a + 2 ^ n - (b + c)) high in
+    rw (s, t) refl)
+    (cases_lt (a + 2 ^ n - (b + c)) (2 ^ (n - 1))))
 
 negative_less : (n a b c : ℕ) → 0 < n → 2 ^ (n - 1) ≤ a → b < 2 ^ (n - 1) → c ≤ 1 → a < 2 ^ n
     → not (is_signed_number n (signed n a -ℤ signed n b -ℤ pos c)) ≡ not (is_negative n ((a + 2 ^ n - (b + c)) % 2 ^ n))
@@ -146,19 +146,19 @@ negative_less n a b c h ha hb hc fa =
     let ra = reads_negative n a ha in
     let rb = reads_positive n b hb in
     let m : (a + 2 ^ n - (b + c)) % 2 ^ n ≡ a + 2 ^ n - (b + c) - 2 ^ n =
-      mod_once (a + 2 ^ n - (b + c)) (2 ^ n) (omega arith) (omega arith) in
+    mod_once (a + 2 ^ n - (b + c)) (2 ^ n) (omega arith) (omega arith) in
     let v : (a + 2 ^ n - (b + c)) % 2 ^ n ≡ a - (b + c) = omega arith in
     rw v
-      (⊎_elim
-        (λ low.
-          let s = is_too_low n (signed n a -ℤ signed n b -ℤ pos c) (omega (arith, ints)) in
-          let t = sign_clear n (a - (b + c)) low in
-          rw (s, t) refl)
-        (λ high.
-          let s = is_signed n (signed n a -ℤ signed n b -ℤ pos c) (omega (arith, ints)) (omega (arith, ints)) in
-          let t = sign_set n (a - (b + c)) high in
-          rw (s, t) refl)
-        (cases_lt (a - (b + c)) (2 ^ (n - 1))))
+    (⊎_elim
+    (λ low.
+    let s = is_too_low n (signed n a -ℤ signed n b -ℤ pos c) (omega (arith, ints)) in
+    let t = sign_clear n (a - (b + c)) low in
+    rw (s, t) refl)
+    (λ high.
+    let s = is_signed n (signed n a -ℤ signed n b -ℤ pos c) (omega (arith, ints)) (omega (arith, ints)) in
+    let t = sign_set n (a - (b + c)) high in
+    rw (s, t) refl)
+    (cases_lt (a - (b + c)) (2 ^ (n - 1))))
 
 -- a difference is no signed number where the operands have two signs and the result that of the second
 pub difference_overflow : (n a b c : ℕ) → 0 < n → c ≤ 1 → a < 2 ^ n → b < 2 ^ n
@@ -167,19 +167,19 @@ pub difference_overflow : (n a b c : ℕ) → 0 < n → c ≤ 1 → a < 2 ^ n �
 difference_overflow n a b c h hc fa fb =
     let v = is_negative n ((a + 2 ^ n - (b + c)) % 2 ^ n) in
     ⊎_elim
-      (λ la.
-        ⊎_elim
-          (λ lb. rw (sign_clear n a la, sign_clear n b lb, both_positive_less n a b c h la lb hc) refl)
-          (λ gb.
-            rw (sign_clear n a la, sign_set n b gb) (differs_from_false v ∙ sym (positive_less n a b c h la gb hc fb)))
-          (cases_lt b (2 ^ (n - 1))))
-      (λ ga.
-        ⊎_elim
-          (λ lb.
-            rw (sign_set n a ga, sign_clear n b lb) (differs_from_true v ∙ sym (negative_less n a b c h ga lb hc fa)))
-          (λ gb. rw (sign_set n a ga, sign_set n b gb, both_negative_less n a b c h ga gb hc fa fb) refl)
-          (cases_lt b (2 ^ (n - 1))))
-      (cases_lt a (2 ^ (n - 1)))
+    (λ la.
+    ⊎_elim
+    (λ lb. rw (sign_clear n a la, sign_clear n b lb, both_positive_less n a b c h la lb hc) refl)
+    (λ gb.
+    rw (sign_clear n a la, sign_set n b gb) (differs_from_false v ∙ sym (positive_less n a b c h la gb hc fb)))
+    (cases_lt b (2 ^ (n - 1))))
+    (λ ga.
+    ⊎_elim
+    (λ lb.
+    rw (sign_set n a ga, sign_clear n b lb) (differs_from_true v ∙ sym (negative_less n a b c h ga lb hc fa)))
+    (λ gb. rw (sign_set n a ga, sign_set n b gb, both_negative_less n a b c h ga gb hc fa fb) refl)
+    (cases_lt b (2 ^ (n - 1))))
+    (cases_lt a (2 ^ (n - 1)))
 
 -- bit 4 of three numbers with an odd number of ones
 pub odd_at_four : (a b v : ℕ) → nat_eq (bit_and (bit_xor (bit_xor a b) v) 16) 0 ≡ nat_eq ((a / 16 + b / 16 + v / 16) % 2) 0
@@ -207,9 +207,9 @@ pub nibble_sum : (w : Width) (a b c : ℕ) → c ≤ 1
 nibble_sum w a b c h =
     let p = upper_parity w (a + b + c) in
     ⊎_elim
-      (λ low. let e : (a / 16 + b / 16 + (a + b + c) % 2 ^ bits w / 16) % 2 ≡ 0 = omega arith in rw e (grind (arith, nat_tests)))
-      (λ high. let e : (a / 16 + b / 16 + (a + b + c) % 2 ^ bits w / 16) % 2 ≡ 1 = omega arith in rw e (grind (arith, nat_tests)))
-      (cases_lt (a % 16 + b % 16 + c) 16)
+    (λ low. let e : (a / 16 + b / 16 + (a + b + c) % 2 ^ bits w / 16) % 2 ≡ 0 = omega arith in rw e (grind (arith, nat_tests)))
+    (λ high. let e : (a / 16 + b / 16 + (a + b + c) % 2 ^ bits w / 16) % 2 ≡ 1 = omega arith in rw e (grind (arith, nat_tests)))
+    (cases_lt (a % 16 + b % 16 + c) 16)
 
 -- all numbers of a width are an even multiple of 16
 even_multiple : (w : Width) → 2 ^ bits w % 32 ≡ 0
@@ -224,9 +224,9 @@ nibble_difference w a b c h k =
     let p = upper_parity w (a + 2 ^ bits w - (b + c)) in
     let q = even_multiple w in
     ⊎_elim
-      (λ low. let e : (a / 16 + b / 16 + (a + 2 ^ bits w - (b + c)) % 2 ^ bits w / 16) % 2 ≡ 1 = omega arith in rw e (grind (arith, nat_tests)))
-      (λ high. let e : (a / 16 + b / 16 + (a + 2 ^ bits w - (b + c)) % 2 ^ bits w / 16) % 2 ≡ 0 = omega arith in rw e (grind (arith, nat_tests)))
-      (cases_lt (a % 16) (b % 16 + c))
+    (λ low. let e : (a / 16 + b / 16 + (a + 2 ^ bits w - (b + c)) % 2 ^ bits w / 16) % 2 ≡ 1 = omega arith in rw e (grind (arith, nat_tests)))
+    (λ high. let e : (a / 16 + b / 16 + (a + 2 ^ bits w - (b + c)) % 2 ^ bits w / 16) % 2 ≡ 0 = omega arith in rw e (grind (arith, nat_tests)))
+    (cases_lt (a % 16) (b % 16 + c))
 
 cut_difference : (w : Width) (a b c : ℕ) → a < 2 ^ bits w → b < 2 ^ bits w → c ≤ 1
     → ((a + (2 ^ 32 - b)) % 2 ^ 32 + (2 ^ 32 - c)) % 2 ^ 32 % 2 ^ bits w ≡ (a + 2 ^ bits w - (b + c)) % 2 ^ bits w

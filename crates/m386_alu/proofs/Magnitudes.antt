@@ -1,11 +1,11 @@
 -- Whole numbers by their sign and magnitude: products, quotients, and the numbers of n bits that stand for them.
-use Rattle.std.proofs.Common.{arith, ◌≡◌, ℕ, zero, suc, ◌+◌, ◌-◌, ◌*◌, ◌/◌, ◌%◌, ◌^◌, ◌<◌, ◌≤◌, sym, ◌∙◌, refl, ap, ⊎_elim, ℤ, pos, negsuc, neg_ℤ, ◌*ℤ◌, ◌-ℤ◌, Bool, true, false, not, nat_lt, nat_le, bit_and, int_div, int_rem, if◌then◌else◌, Some, None}
+use Rattle.std.proofs.Common.{arith, ◌≡◌, ℕ, zero, suc, ◌+◌, ◌-◌, ◌*◌, ◌/◌, ◌%◌, ◌^◌, ◌<◌, ◌≤◌, ◌∙◌, refl, ⊎_elim, ℤ, pos, negsuc, neg_ℤ, ◌*ℤ◌, ◌-ℤ◌, Bool, true, false, not, nat_lt, nat_le, bit_and, int_div, int_rem, if◌then◌else◌, Some, None}
 use Rattle.std.proofs.Math.Bool.{beq}
 use Rattle.std.proofs.Math.Nat.{mod-eq_of_lt}
 use Rattle.std.proofs.lemmas.Bool.{cases_lt}
 use Rattle.std.proofs.lemmas.Bool.Decides.{nat_tests}
 use Rattle.std.proofs.lemmas.Int.{ints}
-use Rattle.std.proofs.lemmas.Nat.{mod_low, mod_below, pow_pos, pow-add, and_mask, mod-mul-add}
+use Rattle.std.proofs.lemmas.Nat.{mod_below, pow_pos, pow-add, and_mask, mod-mul-add}
 use Rattle.std.proofs.lemmas.Nat.Bits.{ones_shr}
 use Rattle.m386_alu.specs.Division.{quotient_of}
 use Rattle.m386_alu.specs.Signs.{modulo, magnitude_of, signed_by}
@@ -28,12 +28,12 @@ top_test n x p =
 pub read_magnitude : (n a : ℕ) → 0 < n → a < 2 ^ n → signed n a ≡ signed_by (is_negative n a) (magnitude_of n a)
 read_magnitude n a p h =
     ⊎_elim
-      (λ low. rw (sign_clear n a low) (reads_positive n a low))
-      (λ high.
-        let r = reads_negative n a high in
-        let e : pos a -ℤ pos (2 ^ n) ≡ neg_ℤ (pos (2 ^ n - a)) = omega (arith, ints) in
-        rw (sign_set n a high) (r ∙ e))
-      (cases_lt a (2 ^ (n - 1)))
+    (λ low. rw (sign_clear n a low) (reads_positive n a low))
+    (λ high.
+    let r = reads_negative n a high in
+    let e : pos a -ℤ pos (2 ^ n) ≡ neg_ℤ (pos (2 ^ n - a)) = omega (arith, ints) in
+    rw (sign_set n a high) (r ∙ e))
+    (cases_lt a (2 ^ (n - 1)))
 
 -- a product by signs and magnitudes
 pub mul_signs : (p q : Bool) (x y : ℕ) → signed_by p x *ℤ signed_by q y ≡ signed_by (not (beq p q)) (x * y)
@@ -100,22 +100,22 @@ pub below_fits : (n m : ℕ) → 0 < n → nat_le m ((2 ^ n - 1) / 2 + 1) ≡ is
 below_fits n m p =
     let h = half_of n p in
     ⊎_elim
-      (λ (out : 2 ^ (n - 1) < m). let s = is_too_low n (signed_by true m) (omega (arith, ints)) in rw (s, h) (grind (arith, nat_tests)))
-      (λ (inside : m ≤ 2 ^ (n - 1)).
-        let s = is_signed n (signed_by true m) (omega (arith, ints)) (omega (arith, ints)) in
-        rw (s, h) (grind (arith, nat_tests)))
-      (cases_lt (2 ^ (n - 1)) m)
+    (λ (out : 2 ^ (n - 1) < m). let s = is_too_low n (signed_by true m) (omega (arith, ints)) in rw (s, h) (grind (arith, nat_tests)))
+    (λ (inside : m ≤ 2 ^ (n - 1)).
+    let s = is_signed n (signed_by true m) (omega (arith, ints)) (omega (arith, ints)) in
+    rw (s, h) (grind (arith, nat_tests)))
+    (cases_lt (2 ^ (n - 1)) m)
 
 -- whether a number so far above 0 is a signed number
 pub above_fits : (n m : ℕ) → 0 < n → nat_le m ((2 ^ n - 1) / 2) ≡ is_signed_number n (signed_by false m)
 above_fits n m p =
     let h = half_of n p in
     ⊎_elim
-      (λ (inside : m < 2 ^ (n - 1)).
-        let s = is_signed n (signed_by false m) (omega (arith, ints)) (omega (arith, ints)) in
-        rw s (grind (arith, nat_tests)))
-      (λ (out : 2 ^ (n - 1) ≤ m). let s = is_too_high n (signed_by false m) (omega (arith, ints)) in rw s (grind (arith, nat_tests)))
-      (cases_lt m (2 ^ (n - 1)))
+    (λ (inside : m < 2 ^ (n - 1)).
+    let s = is_signed n (signed_by false m) (omega (arith, ints)) (omega (arith, ints)) in
+    rw s (grind (arith, nat_tests)))
+    (λ (out : 2 ^ (n - 1) ≤ m). let s = is_too_high n (signed_by false m) (omega (arith, ints)) in rw s (grind (arith, nat_tests)))
+    (cases_lt m (2 ^ (n - 1)))
 
 -- the magnitude of a signed number has n bits
 pub signed_is_small : (n m : ℕ) (b : Bool) → 0 < n → is_signed_number n (signed_by b m) ≡ true → m < 2 ^ n
@@ -133,9 +133,9 @@ signed_is_small n m false p h =
 magnitude_positive : (n y : ℕ) → 0 < y → y < 2 ^ n → 0 < magnitude_of n y
 magnitude_positive n y h k =
     ⊎_elim
-      (λ low. rw (sign_clear n y low) h)
-      (λ high. rw (sign_set n y high) (omega arith))
-      (cases_lt y (2 ^ (n - 1)))
+    (λ low. rw (sign_clear n y low) h)
+    (λ high. rw (sign_set n y high) (omega arith))
+    (cases_lt y (2 ^ (n - 1)))
 
 -- the sign of a quotient
 abbrev pub quotient_sign : ℕ → ℕ → ℕ → Bool

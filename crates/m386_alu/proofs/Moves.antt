@@ -1,7 +1,7 @@
 -- What single shifts come to that are made many times over.
 use Rattle.std.proofs.Common.{arith, ◌≡◌, ℕ, zero, suc, ◌+◌, ◌-◌, ◌*◌, ◌/◌, ◌%◌, ◌^◌, ◌<◌, ◌≤◌, sym, ◌∙◌, refl, ap}
 use Rattle.std.proofs.Math.Nat.{mod-eq_of_lt, div-eq_of_lt, div-eq_of_lt-le, mul-div-mul_right, pow-suc}
-use Rattle.std.proofs.lemmas.Nat.{mul-mod_first, field_of, shr-shr, pow_pos, shr_le}
+use Rattle.std.proofs.lemmas.Nat.{mul-mod_first, field_of, shr-shr, shr_le}
 use Rattle.m386_alu.specs.declared.shifts.ShiftOp.TheVariants.{Shl, Shr, Sar}
 use Rattle.m386_alu.specs.Shifts.{times, shifted}
 use Rattle.m386_alu.proofs.Readings.{two_halves}

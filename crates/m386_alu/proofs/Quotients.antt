@@ -19,9 +19,9 @@ quotient_fits : (is_signed : Bool) (n d by : ℕ) → 0 < by → by < 2 ^ n → 
 unfolding quotient_of
 quotient_fits false n d by p h =
     choice_fits (nat_lt (d / by) (2 ^ n)) n (d / by) (d % by)
-      (λ e.
-        let l : d / by < 2 ^ n = grind (arith, nat_tests, e) in
-        let m = mod_below d by p in (l, omega arith))
+    (λ e.
+    let l : d / by < 2 ^ n = grind (arith, nat_tests, e) in
+    let m = mod_below d by p in (l, omega arith))
 quotient_fits true n d by p h =
     let q = int_div (signed (n + n) d) (signed n by) in
     let r = int_rem (signed (n + n) d) (signed n by) in
@@ -35,6 +35,6 @@ pub div_fits : (is_signed : Bool) (w : Width) (high low by : ℕ) → by < 2 ^ b
 unfolding div_of
 div_fits is_signed w high low by h =
     guard_fits (by == 0) (bits w) (quotient_of is_signed (bits w) (high * 2 ^ bits w + low) by)
-      (λ e.
-        let p : 0 < by = grind (arith, nat_tests, e) in
-        quotient_fits is_signed (bits w) (high * 2 ^ bits w + low) by p h)
+    (λ e.
+    let p : 0 < by = grind (arith, nat_tests, e) in
+    quotient_fits is_signed (bits w) (high * 2 ^ bits w + low) by p h)

@@ -1,5 +1,5 @@
 -- Results fit their width.
-use Rattle.std.proofs.Common.{arith, ◌≡◌, ℕ, ◌+◌, ◌-◌, ◌%◌, ◌^◌, ◌<◌, ◌/◌, ◌*◌, bit_and, bit_or, bit_xor, Bool, true, false, cond, ◌==◌, ◌||◌, nat_lt, sym, subst, ⊎_elim}
+use Rattle.std.proofs.Common.{arith, ◌≡◌, ℕ, ◌+◌, ◌-◌, ◌%◌, ◌^◌, ◌<◌, ◌*◌, bit_and, bit_or, bit_xor, Bool, true, false, cond, ◌==◌, ◌||◌, nat_lt, ⊎_elim}
 use Rattle.std.proofs.lemmas.Bool.{cases_lt}
 use Rattle.std.proofs.lemmas.Nat.{shr_le, shr_below, or_lt, xor_lt, mod_below, pow_pos}
 use Rattle.std.specs.Int.Bits.{and_lt}
@@ -9,7 +9,8 @@ use Rattle.m386_alu.specs.declared.arithmetic.AluOp.{AluOp}
 use Rattle.m386_alu.specs.declared.arithmetic.AluOp.TheVariants.{Add, Or, Adc, Sbb, And, Sub, Xor, Cmp}
 use Rattle.m386_alu.specs.declared.shifts.ShiftOp.{ShiftOp}
 use Rattle.m386_alu.specs.declared.shifts.ShiftOp.TheVariants.{Rol, Ror, Rcl, Rcr, Shl, Shr, Sar}
-use Rattle.m386_alu.specs.Arithmetic.{alu_of, logic_of}
+use Rattle.m386_alu.specs.Arithmetic.{alu_of}
+use Rattle.m386_alu.specs.Logic.{logic_of}
 use Rattle.m386_alu.specs.DoubleShifts.{shifted_left_into, shifted_right_into, after_double_shift, double_shift_of}
 use Rattle.m386_alu.specs.Flags.{carry_of}
 use Rattle.m386_alu.specs.Shifts.{shifted, shift_of, after_shift}
@@ -49,9 +50,9 @@ along m x y e h = omega arith
 sar_fits : (n k a c : ℕ) → 0 < n → a < 2 ^ n → (shifted Sar n k (a, c)).0 < 2 ^ n
 sar_fits n k a c p h =
     ⊎_elim
-      (λ low. rw (sar_low n k a c low, shr_value n k a c) (omega (arith, shr_le a k)))
-      (λ high. let v = sar_high_value n k a c p high h in omega arith)
-      (cases_lt a (2 ^ (n - 1)))
+    (λ low. rw (sar_low n k a c low, shr_value n k a c) (omega (arith, shr_le a k)))
+    (λ high. let v = sar_high_value n k a c p high h in omega arith)
+    (cases_lt a (2 ^ (n - 1)))
 
 pub shifted_fits : (op : ShiftOp) (n k a c : ℕ) → 0 < n → a < 2 ^ n → c < 2 → (shifted op n k (a, c)).0 < 2 ^ n
 shifted_fits Rol n k a c p h l = along (2 ^ n) _ _ (rol_value n k a c) (left_all_fits n k a p h)
@@ -73,7 +74,7 @@ unfolding shift_of
 shift_fits op w a count f h =
     let n = count % 32 in
     choice_fits (n == 0) (a, f) (after_shift op w a n (shifted op (bits w) n (a, carry_of f)) f) (2 ^ bits w) h
-      (shifted_fits op (bits w) n a (carry_of f) (some_bits w) h (omega arith))
+    (shifted_fits op (bits w) n a (carry_of f) (some_bits w) h (omega arith))
 
 into_fits : (left : Bool) (n k a b : ℕ) → a < 2 ^ n → b < 2 ^ n
     → (cond left (shifted_left_into n k a b) (shifted_right_into n k a b)).0 < 2 ^ n

@@ -1,5 +1,5 @@
 -- Single rotates made many times over, as turns of the number, alone or with the carry above it.
-use Rattle.std.proofs.Common.{arith, ◌≡◌, ℕ, zero, suc, ◌+◌, ◌-◌, ◌*◌, ◌/◌, ◌%◌, ◌^◌, ◌<◌, ◌≤◌, sym, ◌∙◌, refl, ap, ⊎_elim}
+use Rattle.std.proofs.Common.{arith, ◌≡◌, ℕ, zero, suc, ◌+◌, ◌-◌, ◌*◌, ◌/◌, ◌%◌, ◌^◌, ◌<◌, sym, ◌∙◌, refl, ⊎_elim}
 use Rattle.std.proofs.Math.Nat.{mod-eq_of_lt, div-eq_of_lt}
 use Rattle.std.proofs.lemmas.Bool.{cases_lt}
 use Rattle.std.proofs.lemmas.Nat.{mod_low, shr_high, pow_pos, div-mul-add, mod-mul-add}
@@ -21,15 +21,15 @@ unfolding turn_left_once
 low_after n v p h =
     let two = two_halves n p in
     ⊎_elim
-      (λ low.
-        let z : v / 2 ^ (n - 1) ≡ 0 = div-eq_of_lt low in
-        let m : v * 2 % 2 ^ n ≡ v * 2 = mod-eq_of_lt (omega arith) in
-        rw (z, m) (omega arith))
-      (λ high.
-        let o : v / 2 ^ (n - 1) ≡ 1 = top_is_one (2 ^ (n - 1)) v high (omega arith) in
-        let m : v * 2 % 2 ^ n ≡ v * 2 - 2 ^ n = mod_once (v * 2) (2 ^ n) (omega arith) (omega arith) in
-        rw (o, m) (omega arith))
-      (cases_lt v (2 ^ (n - 1)))
+    (λ low.
+    let z : v / 2 ^ (n - 1) ≡ 0 = div-eq_of_lt low in
+    let m : v * 2 % 2 ^ n ≡ v * 2 = mod-eq_of_lt (omega arith) in
+    rw (z, m) (omega arith))
+    (λ high.
+    let o : v / 2 ^ (n - 1) ≡ 1 = top_is_one (2 ^ (n - 1)) v high (omega arith) in
+    let m : v * 2 % 2 ^ n ≡ v * 2 - 2 ^ n = mod_once (v * 2) (2 ^ n) (omega arith) (omega arith) in
+    rw (o, m) (omega arith))
+    (cases_lt v (2 ^ (n - 1)))
 
 rol_out : (n k a c : ℕ) → 0 < n → a < 2 ^ n → (shifted Rol n (suc k) (a, c)).1 ≡ turned_left n (suc k) a % 2
 unfolding times
@@ -52,15 +52,15 @@ unfolding turn_right_once
 top_after n v p h =
     let two = two_halves n p in
     ⊎_elim
-      (λ low.
-        let z : v % 2 ≡ 0 = omega arith in
-        let d : (v / 2 + 0 * 2 ^ (n - 1)) / 2 ^ (n - 1) ≡ 0 = div-eq_of_lt (omega arith) in
-        rw (z, d) refl)
-      (λ high.
-        let o : v % 2 ≡ 1 = omega arith in
-        let d : (v / 2 + 1 * 2 ^ (n - 1)) / 2 ^ (n - 1) ≡ 1 = top_is_one (2 ^ (n - 1)) (v / 2 + 1 * 2 ^ (n - 1)) (omega arith) (omega arith) in
-        rw (o, d) refl)
-      (cases_lt (v % 2) 1)
+    (λ low.
+    let z : v % 2 ≡ 0 = omega arith in
+    let d : (v / 2 + 0 * 2 ^ (n - 1)) / 2 ^ (n - 1) ≡ 0 = div-eq_of_lt (omega arith) in
+    rw (z, d) refl)
+    (λ high.
+    let o : v % 2 ≡ 1 = omega arith in
+    let d : (v / 2 + 1 * 2 ^ (n - 1)) / 2 ^ (n - 1) ≡ 1 = top_is_one (2 ^ (n - 1)) (v / 2 + 1 * 2 ^ (n - 1)) (omega arith) (omega arith) in
+    rw (o, d) refl)
+    (cases_lt (v % 2) 1)
 
 ror_out : (n k a c : ℕ) → 0 < n → a < 2 ^ n → (shifted Ror n (suc k) (a, c)).1 ≡ turned_right n (suc k) a / 2 ^ (n - 1)
 unfolding times
@@ -92,32 +92,32 @@ left_through : (m h v c : ℕ) → m ≡ 2 * h → 0 < h → v < m → c < 2
     → (v * 2 % m + c < m) × (v / h < 2) × (v / h * m + (v * 2 % m + c) ≡ v * 2 + c)
 left_through m h v c e p f l =
     ⊎_elim
-      (λ low.
-        let z : v / h ≡ 0 = div-eq_of_lt low in
-        let r : v * 2 % m ≡ v * 2 = mod-eq_of_lt (omega arith) in
-        rw (z, r) (omega arith, omega arith, omega arith))
-      (λ high.
-        let o : v / h ≡ 1 = top_is_one h v high (omega arith) in
-        let r : v * 2 % m ≡ v * 2 - m = mod_once (v * 2) m (omega arith) (omega arith) in
-        rw (o, r) (omega arith, omega arith, omega arith))
-      (cases_lt v h)
+    (λ low.
+    let z : v / h ≡ 0 = div-eq_of_lt low in
+    let r : v * 2 % m ≡ v * 2 = mod-eq_of_lt (omega arith) in
+    rw (z, r) (omega arith, omega arith, omega arith))
+    (λ high.
+    let o : v / h ≡ 1 = top_is_one h v high (omega arith) in
+    let r : v * 2 % m ≡ v * 2 - m = mod_once (v * 2) m (omega arith) (omega arith) in
+    rw (o, r) (omega arith, omega arith, omega arith))
+    (cases_lt v h)
 
 -- one rotate to the right through the carry, over plain numbers
 right_through : (m h v c : ℕ) → m ≡ 2 * h → 0 < h → v < m → c < 2
     → (v / 2 + c * h < m) × (v % 2 < 2) × (v % 2 * m + (v / 2 + c * h) ≡ (c * m + v) / 2 + (c * m + v) % 2 * m)
 right_through m h v c e p f l =
     ⊎_elim
-      (λ low.
-        let z : c ≡ 0 = omega arith in
-        let a : (0 * m + v) / 2 ≡ v / 2 = omega arith in
-        let b : (0 * m + v) % 2 ≡ v % 2 = omega arith in
-        rw (z, a, b) (omega arith, omega arith, omega arith))
-      (λ high.
-        let o : c ≡ 1 = omega arith in
-        let a : (1 * m + v) / 2 ≡ h + v / 2 = omega arith in
-        let b : (1 * m + v) % 2 ≡ v % 2 = omega arith in
-        rw (o, a, b) (omega arith, omega arith, omega arith))
-      (cases_lt c 1)
+    (λ low.
+    let z : c ≡ 0 = omega arith in
+    let a : (0 * m + v) / 2 ≡ v / 2 = omega arith in
+    let b : (0 * m + v) % 2 ≡ v % 2 = omega arith in
+    rw (z, a, b) (omega arith, omega arith, omega arith))
+    (λ high.
+    let o : c ≡ 1 = omega arith in
+    let a : (1 * m + v) / 2 ≡ h + v / 2 = omega arith in
+    let b : (1 * m + v) % 2 ≡ v % 2 = omega arith in
+    rw (o, a, b) (omega arith, omega arith, omega arith))
+    (cases_lt c 1)
 
 -- all numbers of one bit more
 pub twice : (n : ℕ) → 2 ^ (n + 1) ≡ 2 * 2 ^ n

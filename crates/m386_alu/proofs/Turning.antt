@@ -2,7 +2,7 @@
 use Rattle.std.proofs.Common.{arith, ◌≡◌, ℕ, zero, suc, ◌+◌, ◌-◌, ◌*◌, ◌/◌, ◌%◌, ◌^◌, ◌<◌, ◌≤◌, sym, ◌∙◌, refl, ap, ⊎_elim, bit_and, bit_or, subst}
 use Rattle.std.proofs.Math.Nat.{mod-eq_of_lt, div-eq_of_lt, mul-mod_left, pow-le-pow_right}
 use Rattle.std.proofs.lemmas.Bool.{cases_lt}
-use Rattle.std.proofs.lemmas.Nat.{mod-pow-add, shl-shr, pow-add, pow_pos, shr_le, shr_below, or_shifted, and_mask, one_shl, shl_whole, mod_below, div-add-mod'}
+use Rattle.std.proofs.lemmas.Nat.{mod-pow-add, shl-shr, pow-add, pow_pos, shr_below, or_shifted, and_mask, one_shl, shl_whole, mod_below, div-add-mod'}
 use Rattle.m386_alu.specs.Shifts.{times}
 use Rattle.m386_alu.specs.Turns.{turn_left_once, turn_right_once, turned_left, turned_right}
 use Rattle.m386_alu.proofs.Readings.{two_halves, mod_once}
@@ -14,13 +14,13 @@ one_place : (r p k q b h : ℕ) → k * p ≡ h → q % 2 ≡ b
 one_place r p k q b h e f =
     let s : r * (2 * p) ≡ 2 * (r * p) = grind arith in
     ⊎_elim
-      (λ low.
-        let z : b ≡ 0 = omega arith in
-        rw (s, z) (grind arith))
-      (λ high.
-        let o : b ≡ 1 = omega arith in
-        rw (s, o) (grind arith))
-      (cases_lt b 1)
+    (λ low.
+    let z : b ≡ 0 = omega arith in
+    rw (s, z) (grind arith))
+    (λ high.
+    let o : b ≡ 1 = omega arith in
+    rw (s, o) (grind arith))
+    (cases_lt b 1)
 
 -- turned to the right by k places: the low k bits stand above the others
 pub right_closed : (n k x : ℕ) → 0 < n → k ≤ n → turned_right n k x ≡ x % 2 ^ k * 2 ^ (n - k) + x / 2 ^ k
@@ -43,27 +43,27 @@ unfolding turn_left_once turn_right_once
 there_and_back n a p h =
     let two = two_halves n p in
     ⊎_elim
-      (λ low.
-        let z : a % 2 ≡ 0 = omega arith in
-        let m : (a / 2 + 0 * 2 ^ (n - 1)) * 2 % 2 ^ n ≡ a = mod-eq_of_lt (omega arith) ∙ omega arith in
-        let d : (a / 2 + 0 * 2 ^ (n - 1)) / 2 ^ (n - 1) ≡ 0 = div-eq_of_lt (omega arith) in
-        rw (z, m, d) (omega arith))
-      (λ high.
-        let o : a % 2 ≡ 1 = omega arith in
-        let m : (a / 2 + 1 * 2 ^ (n - 1)) * 2 % 2 ^ n ≡ a - 1 =
-          mod_once ((a / 2 + 1 * 2 ^ (n - 1)) * 2) (2 ^ n) (omega arith) (omega arith) ∙ omega arith in
-        let d : (a / 2 + 1 * 2 ^ (n - 1)) / 2 ^ (n - 1) ≡ 1 = top_is_one (2 ^ (n - 1)) (a / 2 + 1 * 2 ^ (n - 1)) (omega arith) (omega arith) in
-        rw (o, m, d) (omega arith))
-      (cases_lt (a % 2) 1)
+    (λ low.
+    let z : a % 2 ≡ 0 = omega arith in
+    let m : (a / 2 + 0 * 2 ^ (n - 1)) * 2 % 2 ^ n ≡ a = mod-eq_of_lt (omega arith) ∙ omega arith in
+    let d : (a / 2 + 0 * 2 ^ (n - 1)) / 2 ^ (n - 1) ≡ 0 = div-eq_of_lt (omega arith) in
+    rw (z, m, d) (omega arith))
+    (λ high.
+    let o : a % 2 ≡ 1 = omega arith in
+    let m : (a / 2 + 1 * 2 ^ (n - 1)) * 2 % 2 ^ n ≡ a - 1 =
+    mod_once ((a / 2 + 1 * 2 ^ (n - 1)) * 2) (2 ^ n) (omega arith) (omega arith) ∙ omega arith in
+    let d : (a / 2 + 1 * 2 ^ (n - 1)) / 2 ^ (n - 1) ≡ 1 = top_is_one (2 ^ (n - 1)) (a / 2 + 1 * 2 ^ (n - 1)) (omega arith) (omega arith) in
+    rw (o, m, d) (omega arith))
+    (cases_lt (a % 2) 1)
 
 right_once_fits : (n a : ℕ) → 0 < n → a < 2 ^ n → turn_right_once n a < 2 ^ n
 unfolding turn_right_once
 right_once_fits n a p h =
     let two = two_halves n p in
     ⊎_elim
-      (λ low. let z : a % 2 ≡ 0 = omega arith in rw z (omega arith))
-      (λ high. let o : a % 2 ≡ 1 = omega arith in rw o (omega arith))
-      (cases_lt (a % 2) 1)
+    (λ low. let z : a % 2 ≡ 0 = omega arith in rw z (omega arith))
+    (λ high. let o : a % 2 ≡ 1 = omega arith in rw o (omega arith))
+    (cases_lt (a % 2) 1)
 
 pub right_fits : (n k a : ℕ) → 0 < n → a < 2 ^ n → turned_right n k a < 2 ^ n
 unfolding times
@@ -123,8 +123,8 @@ cut_shift n p x h =
 grow : (n x : ℕ) → n ≤ 33 → x < 2 ^ n → x < 2 ^ 33
 grow n x l f =
     let p : 2 ^ n ≤ 2 ^ 33 =
-      let q : 0 < 2 = omega arith in
-      pow-le-pow_right q l in
+    let q : 0 < 2 = omega arith in
+    pow-le-pow_right q l in
     omega arith
 
 -- how the code turns to the left
@@ -139,7 +139,7 @@ left_code n x p z l h k f =
     let small : x / 2 ^ (n - p) < 2 ^ p = shr_below x p (n - p) g in
     let back : n - (n - p) ≡ p = omega arith in
     rw (whole, one_shl n 64 (omega arith), and_mask (x * 2 ^ p) n, cut_shift n p x (omega arith), or_shifted (x % 2 ^ (n - p)) p (x / 2 ^ (n - p)) small)
-      (sym (left_is_right n p x z (omega arith) f ∙ right_closed n (n - p) x z (omega arith) ∙ rw back refl))
+    (sym (left_is_right n p x z (omega arith) f ∙ right_closed n (n - p) x z (omega arith) ∙ rw back refl))
 
 -- how the code turns to the right
 pub right_code : (n x p : ℕ) → 0 < n → n ≤ 33 → p < n → x < 2 ^ n
@@ -151,7 +151,7 @@ right_code n x p z l h f =
     let low : x % 2 ^ p < 2 ^ p = mod_below x (2 ^ p) (pow_pos p) in
     let whole : x % 2 ^ p * 2 ^ (n - p) % 2 ^ 64 ≡ x % 2 ^ p * 2 ^ (n - p) = shl_whole (x % 2 ^ p) p (n - p) 64 low (omega arith) in
     rw (one_shl p 64 (omega arith), and_mask x p, whole, or_shifted (x % 2 ^ p) (n - p) (x / 2 ^ p) small)
-      (sym (right_closed n p x z (omega arith)))
+    (sym (right_closed n p x z (omega arith)))
 
 pub left_fits : (n k x : ℕ) → 0 < n → k ≤ n → x < 2 ^ n → turned_left n k x < 2 ^ n
 left_fits n k x p h l =
@@ -163,15 +163,15 @@ unfolding turn_left_once
 left_once_fits n a p h =
     let two = two_halves n p in
     ⊎_elim
-      (λ low.
-        let z : a / 2 ^ (n - 1) ≡ 0 = div-eq_of_lt low in
-        let m : a * 2 % 2 ^ n ≡ a * 2 = mod-eq_of_lt (omega arith) in
-        rw (z, m) (omega arith))
-      (λ high.
-        let o : a / 2 ^ (n - 1) ≡ 1 = top_is_one (2 ^ (n - 1)) a high (omega arith) in
-        let m : a * 2 % 2 ^ n ≡ a * 2 - 2 ^ n = mod_once (a * 2) (2 ^ n) (omega arith) (omega arith) in
-        rw (o, m) (omega arith))
-      (cases_lt a (2 ^ (n - 1)))
+    (λ low.
+    let z : a / 2 ^ (n - 1) ≡ 0 = div-eq_of_lt low in
+    let m : a * 2 % 2 ^ n ≡ a * 2 = mod-eq_of_lt (omega arith) in
+    rw (z, m) (omega arith))
+    (λ high.
+    let o : a / 2 ^ (n - 1) ≡ 1 = top_is_one (2 ^ (n - 1)) a high (omega arith) in
+    let m : a * 2 % 2 ^ n ≡ a * 2 - 2 ^ n = mod_once (a * 2) (2 ^ n) (omega arith) (omega arith) in
+    rw (o, m) (omega arith))
+    (cases_lt a (2 ^ (n - 1)))
 
 pub left_all_fits : (n k a : ℕ) → 0 < n → a < 2 ^ n → turned_left n k a < 2 ^ n
 unfolding times

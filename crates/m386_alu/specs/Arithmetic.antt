@@ -1,18 +1,12 @@
 -- The eight operations of arithmetic and logic on two operands.
-use Rattle.std.specs.Prelude.{ℕ, bit_and, bit_or, bit_xor, false}
+use Rattle.std.specs.Prelude.{ℕ, bit_and, bit_or, bit_xor}
 use Rattle.m386_base.specs.declared.number.Flags.{Flags}
 use Rattle.m386_base.specs.declared.number.Width.{Width}
 use Rattle.m386_alu.specs.declared.arithmetic.AluOp.{AluOp}
 use Rattle.m386_alu.specs.declared.arithmetic.AluOp.TheVariants.{Add, Or, Adc, Sbb, And, Sub, Xor, Cmp}
-use Rattle.m386_alu.specs.declared.flags.Flag.TheVariants.{Carry, Adjust, Overflow}
-use Rattle.m386_alu.specs.Flags.{with_flag, with_result, carry_of}
+use Rattle.m386_alu.specs.Flags.{carry_of}
+use Rattle.m386_alu.specs.Logic.{logic_of}
 use Rattle.m386_alu.specs.Sums.{sum_of, difference_of}
-
--- A result of logic and the flags after it: CF, OF and AF are 0, and SF, ZF and PF speak of the result.
--- Source: Intel 80386 PRM 3.4.1; AF: own choice, docs/DECISIONS.md, "AF after logic"
-unfoldable pub logic_of : Width → ℕ → Flags → ℕ × Flags
-logic_of w value f =
-    (value, with_result w value (with_flag Carry false (with_flag Adjust false (with_flag Overflow false f))))
 
 -- The result of an operation on two operands, and the flags after it. CMP has the result of SUB, which nobody stores.
 -- Source: Intel 80386 PRM 3.2.1, 3.2.2, 3.4.1

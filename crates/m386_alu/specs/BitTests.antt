@@ -1,5 +1,5 @@
 -- Tests of one bit that may change it.
-use Rattle.std.specs.Prelude.{ℕ, Bool, true, false, not}
+use Rattle.std.specs.Prelude.{ℕ, true, false, not}
 use Rattle.m386_base.specs.declared.number.Flags.{Flags}
 use Rattle.m386_alu.specs.declared.bit_tests.BitOp.{BitOp}
 use Rattle.m386_alu.specs.declared.bit_tests.BitOp.TheVariants.{Test, Set, Reset, Complement}

@@ -36,4 +36,4 @@ double_shift_of left w a b count f =
     let n = count % 32 in
     if n == 0 || nat_lt (bits w) n then (a, f)
     else after_double_shift w a n
-      (if left then shifted_left_into (bits w) n a b else shifted_right_into (bits w) n a b) f
+    (if left then shifted_left_into (bits w) n a b else shifted_right_into (bits w) n a b) f

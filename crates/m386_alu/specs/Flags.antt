@@ -37,5 +37,5 @@ carry_of f = f.0 % 2
 abbrev pub with_result : Width → ℕ → Flags → Flags
 with_result w value f =
     with_flag Parity (count_ones (value % 256) % 2 == 0)
-      (with_flag Zero (value == 0)
-        (with_flag Sign (is_negative (bits w) value) f))
+    (with_flag Zero (value == 0)
+    (with_flag Sign (is_negative (bits w) value) f))

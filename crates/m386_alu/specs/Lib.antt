@@ -3,6 +3,7 @@ pub mod BitTests
 pub mod Division
 pub mod DoubleShifts
 pub mod Flags
+pub mod Logic
 pub mod Products
 pub mod Shifts
 pub mod Signs

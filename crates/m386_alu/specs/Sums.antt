@@ -13,12 +13,13 @@ use Rattle.m386_alu.specs.Width.{bits, signed, is_signed_number}
 unfoldable pub sum_of : Width → ℕ → ℕ → ℕ → Flags → ℕ × Flags
 sum_of w a b carry f =
     let n = bits w in
-    let value = (a + b + carry) % 2 ^ n in
-    (value,
+    let value = (a + b + carry) % 2 ^ n in (
+      value,
       with_result w value
-        (with_flag Carry (nat_le (2 ^ n) (a + b + carry))
+          (with_flag Carry (nat_le (2 ^ n) (a + b + carry))
           (with_flag Adjust (nat_le 16 (a % 16 + b % 16 + carry))
-            (with_flag Overflow (not (is_signed_number n (signed n a +ℤ signed n b +ℤ pos carry))) f))))
+          (with_flag Overflow (not (is_signed_number n (signed n a +ℤ signed n b +ℤ pos carry))) f))),
+    )
 
 -- A difference with a borrow of 0 or 1, and the flags after it: CF says that the difference is below 0, AF that the
 -- difference of the low four bits is below 0, OF that the difference of the signed readings is no signed number of the
@@ -27,9 +28,10 @@ sum_of w a b carry f =
 unfoldable pub difference_of : Width → ℕ → ℕ → ℕ → Flags → ℕ × Flags
 difference_of w a b borrow f =
     let n = bits w in
-    let value = (a + 2 ^ n - (b + borrow)) % 2 ^ n in
-    (value,
+    let value = (a + 2 ^ n - (b + borrow)) % 2 ^ n in (
+      value,
       with_result w value
-        (with_flag Carry (nat_lt a (b + borrow))
+          (with_flag Carry (nat_lt a (b + borrow))
           (with_flag Adjust (nat_lt (a % 16) (b % 16 + borrow))
-            (with_flag Overflow (not (is_signed_number n (signed n a -ℤ signed n b -ℤ pos borrow))) f))))
+          (with_flag Overflow (not (is_signed_number n (signed n a -ℤ signed n b -ℤ pos borrow))) f))),
+    )

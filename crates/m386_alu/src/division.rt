@@ -22,6 +22,21 @@ fn divide_unsigned(width: Width, dividend: u64, by: u32) -> Option<(u32, u32)>
     Some((quotient as u32, (dividend % by as u64) as u32))
 }
 
+/// The quotient and the remainder of the magnitudes of numbers read with a sign.
+fn divide_magnitudes(width: Width, dividend: u64, by: u32) -> (u64, u64)
+    requires dividend_fits { dividend < 2 ^ (bits width + bits width) }
+    requires by_fits { by < 2 ^ bits width }
+    requires by { 0 < by }
+    ensures quotient { result.0 ≡ magnitude_of (bits width + bits width) dividend / magnitude_of (bits width) by }
+    ensures rest { result.1 ≡ magnitude_of (bits width + bits width) dividend % magnitude_of (bits width) by }
+    ensures small { result.1 < 2 ^ bits width }
+{
+    let bits = bits_of(width);
+    let dividend_size = magnitude(2 * bits, dividend);
+    let by_size = magnitude(bits, by as u64);
+    (dividend_size / by_size, dividend_size % by_size)
+}
+
 /// The quotient and the remainder of numbers read with a sign: those of the magnitudes, with their signs.
 fn divide_signed(width: Width, dividend: u64, by: u32) -> Option<(u32, u32)>
     requires dividend_fits { dividend < 2 ^ (bits width + bits width) }
@@ -38,19 +53,6 @@ fn divide_signed(width: Width, dividend: u64, by: u32) -> Option<(u32, u32)>
     }
     let quotient = with_sign(bits, quotient, quotient_negative);
     Some((quotient as u32, with_sign(bits, rest, negative) as u32))
-}
-
-/// The quotient and the remainder of a number of two halves by an operand, read with or without a sign (PRM 3.2.4): None
-/// exactly where the operand is 0 or the quotient doesn't fit the width. A signed quotient is rounded toward zero, and may
-/// be the least number of its width (own choice). It takes no memory.
-pub fn div(signed: bool, width: Width, high: u32, low: u32, by: u32) -> Option<(u32, u32)>
-    requires high_fits { high < 2 ^ bits width }
-    requires low_fits { low < 2 ^ bits width }
-    requires by_fits { by < 2 ^ bits width }
-    ensures exact { result ≡ div_of signed width high low by }
-    ensures fits { IfSome result (λ p. (p.0 < 2 ^ bits width) × (p.1 < 2 ^ bits width)) }
-{
-    divide(signed, width, high, low, by)
 }
 
 /// The quotient and the remainder of a number of two halves by an operand.
@@ -72,17 +74,15 @@ fn divide(signed: bool, width: Width, high: u32, low: u32, by: u32) -> Option<(u
     }
 }
 
-/// The quotient and the remainder of the magnitudes of numbers read with a sign.
-fn divide_magnitudes(width: Width, dividend: u64, by: u32) -> (u64, u64)
-    requires dividend_fits { dividend < 2 ^ (bits width + bits width) }
+/// The quotient and the remainder of a number of two halves by an operand, read with or without a sign (PRM 3.2.4): None
+/// exactly where the operand is 0 or the quotient doesn't fit the width. A signed quotient is rounded toward zero, and may
+/// be the least number of its width (own choice). It takes no memory.
+pub fn div(signed: bool, width: Width, high: u32, low: u32, by: u32) -> Option<(u32, u32)>
+    requires high_fits { high < 2 ^ bits width }
+    requires low_fits { low < 2 ^ bits width }
     requires by_fits { by < 2 ^ bits width }
-    requires by { 0 < by }
-    ensures quotient { result.0 ≡ magnitude_of (bits width + bits width) dividend / magnitude_of (bits width) by }
-    ensures rest { result.1 ≡ magnitude_of (bits width + bits width) dividend % magnitude_of (bits width) by }
-    ensures small { result.1 < 2 ^ bits width }
+    ensures exact { result ≡ div_of signed width high low by }
+    ensures fits { IfSome result (λ p. (p.0 < 2 ^ bits width) × (p.1 < 2 ^ bits width)) }
 {
-    let bits = bits_of(width);
-    let dividend_size = magnitude(2 * bits, dividend);
-    let by_size = magnitude(bits, by as u64);
-    (dividend_size / by_size, dividend_size % by_size)
+    divide(signed, width, high, low, by)
 }

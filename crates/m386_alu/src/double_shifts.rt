@@ -49,7 +49,14 @@ fn move_between(left: bool, width: Width, a: u32, b: u32, count: u32) -> (u32, u
 
 /// A number and the flags after a double shift by the low 5 bits of a count.
 #[tactic(auto, unfolding(crate::specs::DoubleShifts::double_shift_of))]
-fn double_shift_by(left: bool, width: Width, a: u32, b: u32, count: u8, flags: Flags) -> (u32, Flags)
+fn double_shift_by(
+    left: bool,
+    width: Width,
+    a: u32,
+    b: u32,
+    count: u8,
+    flags: Flags,
+) -> (u32, Flags)
     requires a_fits { a < 2 ^ bits width }
     requires b_fits { b < 2 ^ bits width }
     ensures { result ≡ double_shift_of left width a b count flags }
@@ -67,7 +74,14 @@ fn double_shift_by(left: bool, width: Width, a: u32, b: u32, count: u8, flags: F
 /// A number after SHLD (`left`) or SHRD with bits of `b` moved in, and the flags after it (PRM 3.4.4.2). Of the count the
 /// low 5 bits count; where these are more than the width nothing changes, OF after a single one says that the sign changed,
 /// and AF stays (own choices). The 80386 has these operations for 16 and 32 bits. It takes no memory.
-pub fn double_shift(left: bool, width: Width, a: u32, b: u32, count: u8, flags: Flags) -> (u32, Flags)
+pub fn double_shift(
+    left: bool,
+    width: Width,
+    a: u32,
+    b: u32,
+    count: u8,
+    flags: Flags,
+) -> (u32, Flags)
     requires a_fits { a < 2 ^ bits width }
     requires b_fits { b < 2 ^ bits width }
     ensures exact { result ≡ double_shift_of left width a b count flags }

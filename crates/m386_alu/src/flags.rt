@@ -50,7 +50,11 @@ pub fn put_flag(flag: Flag, value: bool, flags: Flags) -> Flags
     ensures { result ≡ with_flag flag value flags }
 {
     let mask = 1 << place_of(flag);
-    Flags(if value { flags.0 | mask } else { flags.0 & !mask })
+    Flags(if value {
+        flags.0 | mask
+    } else {
+        flags.0 & !mask
+    })
 }
 
 /// CF as a number.

@@ -3,14 +3,16 @@
 #![tactic(auto)]
 
 pub mod arithmetic;
+pub mod bit_tests;
 pub mod division;
 pub mod double_shifts;
 pub mod flags;
-pub mod bit_tests;
 mod logic;
 pub mod products;
 mod rotates;
 pub mod shifts;
 mod signs;
 mod sums;
+#[cfg(test)]
+mod tests;
 pub mod width;

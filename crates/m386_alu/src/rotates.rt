@@ -82,7 +82,10 @@ pub fn rotate_left_with_carry(width: Width, number: u32, count: u32, carry: u32)
     requires carry { carry < 2 }
     ensures { result ≡ shifted Rcl (bits width) count (number, carry) }
 {
-    part(width, turn_left(join(width, number, carry), bits_of(width) + 1, count))
+    part(
+        width,
+        turn_left(join(width, number, carry), bits_of(width) + 1, count),
+    )
 }
 
 /// A number and CF after RCR: the carry stands above the number, and both turn.
@@ -92,5 +95,8 @@ pub fn rotate_right_with_carry(width: Width, number: u32, count: u32, carry: u32
     requires carry { carry < 2 }
     ensures { result ≡ shifted Rcr (bits width) count (number, carry) }
 {
-    part(width, turn_right(join(width, number, carry), bits_of(width) + 1, count))
+    part(
+        width,
+        turn_right(join(width, number, carry), bits_of(width) + 1, count),
+    )
 }

@@ -58,7 +58,10 @@ fn shift_right_signed(width: Width, number: u32, count: u32) -> (u32, u32)
     if has_sign(width, number) {
         let max = max_of(width);
         let complement = max - number;
-        (max - (complement >> count), 1 - (complement >> (count - 1) & 1))
+        (
+            max - (complement >> count),
+            1 - (complement >> (count - 1) & 1),
+        )
     } else {
         shift_right(width, number, count)
     }
@@ -92,18 +95,6 @@ fn put_shifted(op: ShiftOp, width: Width, value: u32, flags: Flags) -> Flags
     }
 }
 
-/// A number and the flags after a shift or rotate by a count of 1 to 31.
-fn shift_some(op: ShiftOp, width: Width, a: u32, count: u32, flags: Flags) -> (u32, Flags)
-    requires a_fits { a < 2 ^ bits width }
-    requires count { (0 < count) × (count < 32) }
-    ensures { result ≡ after_shift op width a count (shifted op (bits width) count (a, carry_of flags)) flags }
-{
-    let (value, out) = move_bits(op, width, a, count, carry(flags));
-    let flags = put_sign_change(width, count, a, value, flags);
-    let flags = put_flag(Flag::Carry, out == 1, flags);
-    (value, put_shifted(op, width, value, flags))
-}
-
 /// The flags with OF as a shift or rotate of one number to another makes it.
 pub fn put_sign_change(width: Width, count: u32, before: u32, after: u32, flags: Flags) -> Flags
     ensures { result ≡ with_sign_change (bits width) count before after flags }
@@ -114,6 +105,18 @@ pub fn put_sign_change(width: Width, count: u32, before: u32, after: u32, flags:
     } else {
         flags
     }
+}
+
+/// A number and the flags after a shift or rotate by a count of 1 to 31.
+fn shift_some(op: ShiftOp, width: Width, a: u32, count: u32, flags: Flags) -> (u32, Flags)
+    requires a_fits { a < 2 ^ bits width }
+    requires count { (0 < count) × (count < 32) }
+    ensures { result ≡ after_shift op width a count (shifted op (bits width) count (a, carry_of flags)) flags }
+{
+    let (value, out) = move_bits(op, width, a, count, carry(flags));
+    let flags = put_sign_change(width, count, a, value, flags);
+    let flags = put_flag(Flag::Carry, out == 1, flags);
+    (value, put_shifted(op, width, value, flags))
 }
 
 /// A shift or rotate by the low 5 bits of a count, and the flags after it.

@@ -53,5 +53,9 @@ pub fn fits_signed(bits: u32, magnitude: u64, negative: bool) -> bool
     ensures { result ≡ is_signed_number bits (signed_by negative magnitude) }
 {
     let most = max_of_bits(bits) / 2;
-    if negative { magnitude <= most + 1 } else { magnitude <= most }
+    if negative {
+        magnitude <= most + 1
+    } else {
+        magnitude <= most
+    }
 }

@@ -36,7 +36,11 @@ pub fn sum(width: Width, a: u32, b: u32, carry: u32, flags: Flags) -> (u32, Flag
     let max = max_of(width) as u64;
     let total = a as u64 + b as u64 + carry as u64;
     let value = (total & max) as u32;
-    let flags = put_flag(Flag::Overflow, sum_overflows(width, a, b, carry, value), flags);
+    let flags = put_flag(
+        Flag::Overflow,
+        sum_overflows(width, a, b, carry, value),
+        flags,
+    );
     let flags = put_flag(Flag::Adjust, crosses_nibble(a, b, value), flags);
     let flags = put_flag(Flag::Carry, total > max, flags);
     (value, put_result(width, value, flags))
@@ -63,7 +67,11 @@ pub fn difference(width: Width, a: u32, b: u32, borrow: u32, flags: Flags) -> (u
 {
     let taken = b as u64 + borrow as u64;
     let value = a.wrapping_sub(b).wrapping_sub(borrow) & max_of(width);
-    let flags = put_flag(Flag::Overflow, difference_overflows(width, a, b, borrow, value), flags);
+    let flags = put_flag(
+        Flag::Overflow,
+        difference_overflows(width, a, b, borrow, value),
+        flags,
+    );
     let flags = put_flag(Flag::Adjust, crosses_nibble(a, b, value), flags);
     let flags = put_flag(Flag::Carry, taken > a as u64, flags);
     (value, put_result(width, value, flags))

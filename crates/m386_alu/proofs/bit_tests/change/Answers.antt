@@ -1,4 +1,4 @@
-use Rattle.std.proofs.Common.{rules, bit_or, bit_and, bit_xor, refl, ◌<◌, ◌^◌}
+use Rattle.std.proofs.Common.{rules, refl, ◌<◌, ◌^◌}
 use Rattle.m386_alu.proofs.BitPlaces.{set_bit, clear_bit, flip_bit, mask_at}
 use Rattle.m386_alu.proofs.bit_tests.change.Goals as goal
 

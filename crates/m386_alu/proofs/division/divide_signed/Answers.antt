@@ -1,6 +1,6 @@
-use Rattle.std.proofs.Common.{arith, refl, ◌≡◌, ◌<◌, ◌^◌, ◌∙◌, sym, true, not}
+use Rattle.std.proofs.Common.{refl, not}
 use Rattle.std.proofs.Math.Bool.{beq}
-use Rattle.m386_alu.specs.Width.{bits, is_signed_number}
+use Rattle.m386_alu.specs.Width.{bits}
 use Rattle.m386_alu.proofs.Carries.{some_bits}
 use Rattle.m386_alu.proofs.Magnitudes.{signed_is_small, quotient_by_signs}
 use Rattle.m386_alu.proofs.division.divide_signed.Goals as goal

@@ -1,4 +1,4 @@
-use Rattle.std.proofs.Common.{arith, rules, ◌<◌, ◌≡◌, ◌^◌, ◌*◌, ◌%◌}
+use Rattle.std.proofs.Common.{arith, rules, ◌<◌, ◌^◌}
 use Rattle.m386_alu.specs.Flags.{place, with_flag}
 use Rattle.m386_alu.proofs.BitPlaces.{set_bit, clear_bit, mask_at}
 use Rattle.m386_alu.proofs.flags.put_flag.Goals as goal

@@ -9,4 +9,4 @@ pub returns : goal.returns
 returns c = λ carry.
     let w = c.args.width in
     rw (and_mask c.turn_left-value.result 1, c.turn_left-value.ensures.exact, c.bits_of.ensures)
-      (sym (rol_after (bits w) c.args.count c.args.number carry c.requires.count.0 (some_bits w) c.requires.fits))
+    (sym (rol_after (bits w) c.args.count c.args.number carry c.requires.count.0 (some_bits w) c.requires.fits))

@@ -8,4 +8,4 @@ pub returns : goal.returns
 returns c = λ carry.
     let w = c.args.width in
     rw (c.turn_right-value.ensures.exact, c.bits_of-bits.ensures)
-      (sym (ror_after (bits w) c.args.count c.args.number carry c.requires.count.0 (some_bits w) c.requires.fits))
+    (sym (ror_after (bits w) c.args.count c.args.number carry c.requires.count.0 (some_bits w) c.requires.fits))

@@ -1,6 +1,6 @@
-use Rattle.std.proofs.Common.{arith, ◌≡◌, ℕ, ◌*◌, ◌/◌, ◌%◌, ◌-◌, ◌^◌, ◌<◌, ◌∙◌, ◌≤◌, bit_or, bit_and, sym, subst}
+use Rattle.std.proofs.Common.{arith, ◌%◌, ◌<◌, ◌∙◌, ◌≤◌}
 use Rattle.std.proofs.lemmas.Nat.{mod_below}
-use Rattle.m386_alu.specs.Turns.{turn_left_once, turned_left}
+use Rattle.m386_alu.specs.Turns.{turn_left_once}
 use Rattle.m386_alu.proofs.Turning.{left_code, left_fits, left_round, times_rest}
 use Rattle.m386_alu.proofs.rotates.turn_left.Goals as goal
 

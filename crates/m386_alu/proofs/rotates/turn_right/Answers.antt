@@ -1,6 +1,6 @@
-use Rattle.std.proofs.Common.{arith, ◌≡◌, ℕ, ◌*◌, ◌/◌, ◌%◌, ◌-◌, ◌^◌, ◌<◌, ◌∙◌, ◌≤◌, bit_or, bit_and, sym, subst}
+use Rattle.std.proofs.Common.{arith, ◌%◌, ◌<◌, ◌∙◌, ◌≤◌}
 use Rattle.std.proofs.lemmas.Nat.{mod_below}
-use Rattle.m386_alu.specs.Turns.{turn_right_once, turned_right}
+use Rattle.m386_alu.specs.Turns.{turn_right_once}
 use Rattle.m386_alu.proofs.Turning.{right_code, right_fits, right_round, times_rest}
 use Rattle.m386_alu.proofs.rotates.turn_right.Goals as goal
 

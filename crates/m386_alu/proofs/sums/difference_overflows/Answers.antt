@@ -1,4 +1,4 @@
-use Rattle.std.proofs.Common.{arith, ◌≡◌, ◌+◌, ◌%◌, ◌^◌, sym, ◌∙◌, refl}
+use Rattle.std.proofs.Common.{refl}
 use Rattle.m386_alu.specs.Width.{bits}
 use Rattle.m386_alu.proofs.Carries.{difference_overflow, some_bits}
 use Rattle.m386_alu.proofs.sums.difference_overflows.Goals as goal

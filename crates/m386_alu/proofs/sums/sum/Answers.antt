@@ -1,4 +1,4 @@
-use Rattle.std.proofs.Common.{arith, ◌≡◌, ◌+◌, ◌-◌, ◌%◌, ◌^◌, refl, bit_and, ap, ◌∙◌, nat_lt, nat_le}
+use Rattle.std.proofs.Common.{◌≡◌, ◌+◌, ◌%◌, ◌^◌, refl, bit_and, ap, ◌∙◌, nat_lt, nat_le}
 use Rattle.std.proofs.lemmas.Nat.{and_mask}
 use Rattle.m386_alu.specs.Sums.{sum_of}
 use Rattle.m386_alu.specs.Width.{bits}

@@ -1,4 +1,4 @@
-use Rattle.std.proofs.Common.{arith, ◌≡◌, ◌+◌, ◌%◌, ◌^◌, sym, ◌∙◌, refl}
+use Rattle.std.proofs.Common.{refl}
 use Rattle.m386_alu.specs.Width.{bits}
 use Rattle.m386_alu.proofs.Carries.{sum_overflow, some_bits}
 use Rattle.m386_alu.proofs.sums.sum_overflows.Goals as goal
