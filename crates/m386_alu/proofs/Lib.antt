@@ -8,3 +8,4 @@ pub mod Rotating
 pub mod Doubling
 pub mod Magnitudes
 pub mod Quotients
+pub mod Keeping

@@ -17,5 +17,5 @@ tested Complement a k = put_bit a k (not (has_bit a k))
 -- The number after a test of bit k, and the flags after it: CF is the bit as it was, and all other flags stay.
 -- Source: Intel 80386 PRM 3.4.2
 -- Own choice: docs/DECISIONS.md, "Flags that the manual leaves undefined"
-abbrev pub bits_of : BitOp → ℕ → ℕ → Flags → ℕ × Flags
-bits_of op a k f = (tested op a k, with_flag Carry (has_bit a k) f)
+abbrev pub bit_test_of : BitOp → ℕ → ℕ → Flags → ℕ × Flags
+bit_test_of op a k f = (tested op a k, with_flag Carry (has_bit a k) f)

@@ -1,6 +1,7 @@
 //! The eight operations of arithmetic and logic on two operands.
 ghost use Rattle.std.specs.Prelude.{◌≡◌, ◌<◌, ◌^◌};
 ghost use Rattle.m386_alu.specs.Arithmetic.{alu_of};
+ghost use Rattle.m386_alu.specs.Flags.{KeepsOthers};
 ghost use Rattle.m386_alu.specs.Width.{bits};
 
 use crate::flags::carry;
@@ -53,6 +54,7 @@ pub fn alu(op: AluOp, width: Width, a: u32, b: u32, flags: Flags) -> (u32, Flags
     requires b_fits { b < 2 ^ bits width }
     ensures exact { result ≡ alu_of op width a b flags }
     ensures fits { result.0 < 2 ^ bits width }
+    ensures others { KeepsOthers flags result.1 }
 {
     calculate(op, width, a, b, flags)
 }

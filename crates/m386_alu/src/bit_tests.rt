@@ -1,6 +1,7 @@
 //! Tests of one bit that may change it.
 ghost use Rattle.std.specs.Prelude.{◌≡◌, ◌<◌, ◌^◌};
-ghost use Rattle.m386_alu.specs.BitTests.{tested, bits_of};
+ghost use Rattle.m386_alu.specs.BitTests.{tested, bit_test_of};
+ghost use Rattle.m386_alu.specs.Flags.{KeepsOthers};
 ghost use Rattle.m386_alu.specs.Width.{bits};
 
 use crate::flags::{Flag, put_flag};
@@ -39,8 +40,9 @@ fn change(op: BitOp, number: u32, bit: u8) -> u32
 pub fn bits(op: BitOp, width: Width, a: u32, bit: u8, flags: Flags) -> (u32, Flags)
     requires a_fits { a < 2 ^ bits width }
     requires inside { bit < bits width }
-    ensures exact { result ≡ bits_of op a bit flags }
+    ensures exact { result ≡ bit_test_of op a bit flags }
     ensures fits { result.0 < 2 ^ bits width }
+    ensures others { KeepsOthers flags result.1 }
 {
     let was_set = a >> bit & 1 == 1;
     (change(op, a, bit), put_flag(Flag::Carry, was_set, flags))

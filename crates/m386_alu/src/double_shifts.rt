@@ -1,6 +1,7 @@
 //! Double shifts: SHLD and SHRD.
 ghost use Rattle.std.specs.Prelude.{◌≡◌, ◌<◌, ◌≤◌, ◌^◌, if◌then◌else◌};
 ghost use Rattle.m386_alu.specs.DoubleShifts.{shifted_left_into, shifted_right_into, after_double_shift, double_shift_of};
+ghost use Rattle.m386_alu.specs.Flags.{KeepsOthers};
 ghost use Rattle.m386_alu.specs.Width.{bits};
 
 use crate::flags::{Flag, put_flag, put_result};
@@ -86,6 +87,7 @@ pub fn double_shift(
     requires b_fits { b < 2 ^ bits width }
     ensures exact { result ≡ double_shift_of left width a b count flags }
     ensures fits { result.0 < 2 ^ bits width }
+    ensures others { KeepsOthers flags result.1 }
 {
     double_shift_by(left, width, a, b, count, flags)
 }

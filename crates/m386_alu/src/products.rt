@@ -1,5 +1,6 @@
 //! Products of two operands.
 ghost use Rattle.std.specs.Prelude.{◌≡◌, ◌+◌, ◌<◌, ◌^◌, true};
+ghost use Rattle.m386_alu.specs.Flags.{KeepsOthers};
 ghost use Rattle.m386_alu.specs.Products.{product_of, extension, halves_of, mul_of};
 ghost use Rattle.m386_alu.specs.Width.{bits};
 
@@ -66,6 +67,7 @@ pub fn mul(signed: bool, width: Width, a: u32, b: u32, flags: Flags) -> (u32, u3
     ensures exact { result ≡ mul_of signed width a b flags }
     ensures high_fits { result.0 < 2 ^ bits width }
     ensures low_fits { result.1 < 2 ^ bits width }
+    ensures others { KeepsOthers flags result.2 }
 {
     halve(signed, width, product(signed, width, a, b), flags)
 }

@@ -1,7 +1,7 @@
 //! Shifts and rotates with their flags.
 ghost use Rattle.std.specs.Prelude.{◌≡◌, ◌<◌, ◌≤◌, ◌^◌, ◌*◌, ◌/◌, ◌%◌, ℕ};
 ghost use Rattle.m386_alu.specs.Shifts.{shifted, shift_of, after_shift, with_shifted, with_sign_change};
-ghost use Rattle.m386_alu.specs.Flags.{carry_of};
+ghost use Rattle.m386_alu.specs.Flags.{carry_of, KeepsOthers};
 ghost use Rattle.m386_alu.specs.declared.shifts.ShiftOp.TheVariants.{Shl, Shr, Sar};
 ghost use Rattle.m386_alu.specs.Width.{bits};
 
@@ -96,7 +96,13 @@ fn put_shifted(op: ShiftOp, width: Width, value: u32, flags: Flags) -> Flags
 }
 
 /// The flags with OF as a shift or rotate of one number to another makes it.
-pub fn put_sign_change(width: Width, count: u32, before: u32, after: u32, flags: Flags) -> Flags
+pub(crate) fn put_sign_change(
+    width: Width,
+    count: u32,
+    before: u32,
+    after: u32,
+    flags: Flags,
+) -> Flags
     ensures { result ≡ with_sign_change (bits width) count before after flags }
 {
     if count == 1 {
@@ -140,6 +146,7 @@ pub fn shift(op: ShiftOp, width: Width, a: u32, count: u8, flags: Flags) -> (u32
     requires { a < 2 ^ bits width }
     ensures exact { result ≡ shift_of op width a count flags }
     ensures fits { result.0 < 2 ^ bits width }
+    ensures others { KeepsOthers flags result.1 }
 {
     shift_by(op, width, a, count, flags)
 }
