@@ -1,0 +1,7 @@
+//! The operations of the machine and how they are spelled: one table of opcode rows, and what a string of bytes reads as.
+#![tactic(auto)]
+
+pub mod name;
+pub mod op;
+pub mod row;
+pub mod rows;
