@@ -1,5 +1,5 @@
 -- The opcodes of the machine, in the order of the manual's opcode map.
-use Rattle.std.specs.Prelude.{ℕ, ◌+◌, ◌*◌, Bool, true, false, List, [], ◌∷◌, ◌++◌}
+use Rattle.std.specs.Prelude.{ℕ, ◌+◌, ◌*◌, Bool, true, false, List, [], ◌∷◌, ◌++◌, slice_index_or}
 use Rattle.m386_opmap.specs.declared.name.Name.{Name}
 use Rattle.m386_opmap.specs.declared.name.Name.TheVariants.{Add, Or, Adc, Sbb, And, Sub, Xor, Cmp, Test, Inc, Dec, Not, Neg, Mul, Imul, Div, Idiv, Rol, Ror, Rcl, Rcr, Shl, Shr, Sar, Shld, Shrd, Bt, Bts, Btr, Btc, Bsf, Bsr, Mov, Movzx8, Movzx16, Movsx8, Movsx16, Xchg, Lea, Cwde, Cdq, Xlat, Les, Lds, Lss, Lfs, Lgs, Push, Pop, Pusha, Popa, Pushf, Popf, Leave, Movs, Cmps, Stos, Lods, Scas, Jmp, Jmpf, Call, Callf, Ret, Retf, Iret, Int, Int3, Into, Loopnz, Loopz, Loop, Jecxz, Jo, Jno, Jb, Jae, Je, Jne, Jbe, Ja, Js, Jns, Jp, Jnp, Jl, Jge, Jle, Jg, Seto, Setno, Setb, Setae, Sete, Setne, Setbe, Seta, Sets, Setns, Setp, Setnp, Setl, Setge, Setle, Setg, In, Out, Clc, Stc, Cmc, Cld, Std, Cli, Sti, Sahf, Lahf, Arpl, Bound, Lar, Lsl, Verr, Verw, Sldt, Lldt, Str, Ltr, Sgdt, Lgdt, Sidt, Lidt, Smsw, Lmsw, Clts, Hlt, Nop, Wait, Esc}
 use Rattle.m386_opmap.specs.declared.row.Row.{Row}
@@ -17,17 +17,18 @@ jumps = Jo ∷ Jno ∷ Jb ∷ Jae ∷ Je ∷ Jne ∷ Jbe ∷ Ja ∷ Js ∷ Jns �
 abbrev pub settings : List Name
 settings = Seto ∷ Setno ∷ Setb ∷ Setae ∷ Sete ∷ Setne ∷ Setbe ∷ Seta ∷ Sets ∷ Setns ∷ Setp ∷ Setnp ∷ Setl ∷ Setge ∷ Setle ∷ Setg ∷ []
 
--- three places for operands, filled from the left
-abbrev pub places : List Operand → List Operand
-places [] = Absent ∷ Absent ∷ Absent ∷ []
-places (a ∷ []) = a ∷ Absent ∷ Absent ∷ []
-places (a ∷ b ∷ []) = a ∷ b ∷ Absent ∷ []
-places (a ∷ b ∷ c ∷ rest) = a ∷ b ∷ c ∷ []
+-- the operand at a place, Absent behind the last
+abbrev pub place : ℕ → List Operand → Operand
+place i operands = slice_index_or operands i Absent
 
 -- a row from one key to another, with or without LOCK
 abbrev pub keys : ℕ → ℕ → Name → Size → List Operand → Bool → Row
 keys low high name size operands lock =
-    record { low = low; high = high; name = name; size = size; operands = places operands; lock = lock; newer = false }
+    record {
+        low = low; high = high; name = name; size = size;
+        first = place 0 operands; second = place 1 operands; third = place 2 operands;
+        lock = lock; newer = false
+    }
 
 -- the rows of the opcodes from one to another
 abbrev pub span : ℕ → ℕ → Name → Size → List Operand → Row

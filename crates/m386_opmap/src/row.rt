@@ -89,8 +89,12 @@ pub struct Row {
     pub name: Name,
     /// How wide its operands are.
     pub size: Size,
-    /// Its operands, the destination first, then places without one.
-    pub operands: [Operand; 3],
+    /// The first operand, the destination where there is one.
+    pub first: Operand,
+    /// The second operand.
+    pub second: Operand,
+    /// The third operand.
+    pub third: Operand,
     /// Whether LOCK may stand before it, where its ModRM byte names memory.
     pub lock: bool,
     /// Whether the row is of a processor newer than the 80386.

@@ -32,19 +32,13 @@ macro_rules! last_key {
     };
 }
 
-/// The operands of a row, and `Absent` in the places behind them.
-macro_rules! operands {
+/// An operand of a row by its place, `Absent` behind the last.
+macro_rules! operand {
     () => {
-        [Operand::Absent, Operand::Absent, Operand::Absent]
+        Operand::Absent
     };
-    ($first:ident) => {
-        [Operand::$first, Operand::Absent, Operand::Absent]
-    };
-    ($first:ident $second:ident) => {
-        [Operand::$first, Operand::$second, Operand::Absent]
-    };
-    ($first:ident $second:ident $third:ident) => {
-        [Operand::$first, Operand::$second, Operand::$third]
+    ($operand:ident) => {
+        Operand::$operand
     };
 }
 
@@ -62,14 +56,16 @@ macro_rules! has_lock {
 macro_rules! rows {
     ($(
         $opcode:literal $(..= $last:literal)? $(/ $middle:literal $(..= $end:literal)?)?
-        $name:ident $size:ident ($($operand:ident)*) $($mark:ident)?;
+        $name:ident $size:ident ($($first:ident $($second:ident $($third:ident)?)?)?) $($mark:ident)?;
     )*) => {
         [$(Row {
             low: first_key!($opcode $(/ $middle)?),
             high: last_key!($opcode $(..= $last)? $(/ $middle $(..= $end)?)?),
             name: Name::$name,
             size: Size::$size,
-            operands: operands!($($operand)*),
+            first: operand!($($first)?),
+            second: operand!($($($second)?)?),
+            third: operand!($($($($third)?)?)?),
             lock: has_lock!($($mark)?),
             newer: false,
         }),*]

@@ -1,0 +1,33 @@
+-- Which row of the opcode table covers a key.
+use Rattle.std.specs.Prelude.{ℕ, ◌+◌, ◌*◌, ◌≤◌, Bool, true, ◌&&◌, ◌||◌, not, nat_le, List, [], ◌∷◌, Option}
+use Rattle.std.specs.List.{find}
+use Rattle.m386_opmap.specs.declared.row.Row.{Row}
+
+-- the row covers the key
+abbrev pub Covers : Row → ℕ → Type 0
+Covers r key = (r.low ≤ key) × (key ≤ r.high)
+
+-- whether the row covers the key
+abbrev pub covers : ℕ → Row → Bool
+covers key r = nat_le r.low key && nat_le key r.high
+
+-- each row ends below the begin of the next, from this key on
+abbrev pub rising_from : ℕ → List Row → Bool
+rising_from least [] = true
+rising_from least (r ∷ rs) = nat_le least r.low && nat_le r.low r.high && rising_from (r.high + 1) rs
+
+-- each row ends below the begin of the next
+abbrev pub rising : List Row → Bool
+rising rs = rising_from 0 rs
+
+-- the row that covers a key
+unfoldable pub row_at : ℕ → List Row → Option Row
+row_at key rows = find (covers key) rows
+
+-- whether the row is of this opcode, whatever the ModRM byte says, and takes LOCK where there is one
+abbrev pub begins : Bool → ℕ → Row → Bool
+begins lock opcode r = nat_le r.low (8 * opcode + 7) && nat_le (8 * opcode) r.high && (not lock || r.lock)
+
+-- the first row of an opcode, of those that take LOCK where there is one
+unfoldable pub row_of : Bool → ℕ → List Row → Option Row
+row_of lock opcode rows = find (begins lock opcode) rows

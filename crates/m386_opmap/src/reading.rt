@@ -1,0 +1,95 @@
+//! What a string of bytes reads as.
+ghost use Rattle.std.specs.Prelude.{◌≡◌, ◌+◌, ◌*◌, ◌<◌, ◌≤◌, ◌^◌, length};
+ghost use Rattle.m386_opmap.specs.Opcodes.{opcode_rows};
+ghost use Rattle.m386_opmap.specs.Rows.{row_at, row_of};
+ghost use Rattle.m386_opmap.specs.Forms.{displacement};
+ghost use Rattle.m386_opmap.specs.Prefix.{is_prefix, with_prefix, no_prefixes};
+ghost use Rattle.m386_opmap.specs.Readings.{tail_reading, displaced_reading, sib_reading, form_reading, modrm_reading, opcode_reading, second_reading, first_reading, prefixed_reading, reading_by};
+
+use crate::fields::{Fields, Prefixes};
+use crate::form;
+use crate::op::{Addr, Arg};
+use crate::operand;
+use crate::outcome::Reading;
+use crate::row::Row;
+use crate::rows::ROWS;
+
+/// The row of a table that covers a key.
+#[tactic(auto, using(crate::proofs::Find::row_at_steps))]
+fn covering(rows: &[Row], key: u16) -> Option<Row>
+    ensures { result ≡ row_at key rows.now }
+{
+    for row in rows {
+        if row.low <= key && key <= row.high {
+            return Some(*row);
+        }
+    }
+    None
+}
+
+/// The first row of an opcode, of those that take LOCK where there is one.
+#[tactic(auto, using(crate::proofs::Find::row_of_steps))]
+fn beginning(rows: &[Row], lock: bool, opcode: u16) -> Option<Row>
+    requires { opcode < 4096 }
+    ensures { result ≡ row_of lock opcode rows.now }
+{
+    for row in rows {
+        if row.low <= 8 * opcode + 7 && 8 * opcode <= row.high && (!lock || row.lock) {
+            return Some(*row);
+        }
+    }
+    None
+}
+
+/// Reads the bytes behind opcode and ModRM, of which the first stands at this place.
+#[tactic(auto, unfolding(crate::specs::Readings::tail_reading))]
+fn read_tail(row: &Row, fields: &Fields, at: usize, rest: &[u8]) -> Reading
+    requires { at + length rest.now < 2 ^ 64 }
+    ensures { result ≡ tail_reading row.now fields.now at rest.now }
+{
+    let len = operand::tail_len(row, fields.prefixes.narrow);
+    if rest.len() < len {
+        return Reading::More;
+    }
+    Reading::Spelled {
+        op: operand::operation_of(row, fields, &rest[..len]),
+        len: at + len,
+    }
+}
+
+/// Reads a displacement of so many bytes, of which the first stands at this place.
+#[tactic(auto, unfolding(crate::specs::Readings::displaced_reading))]
+fn read_displacement(row: &Row, fields: &Fields, address: Addr, len: usize, at: usize, rest: &[u8]) -> Reading
+    requires few { len ≤ 4 }
+    requires room { at + length rest.now < 2 ^ 64 }
+    ensures { result ≡ displaced_reading row.now fields.now address len at rest.now }
+{
+    if rest.len() < len {
+        return Reading::More;
+    }
+    let mut address = address;
+    address.disp = operand::displacement_of(&rest[..len]);
+    let mut fields = *fields;
+    fields.place = Some(Arg::Mem(address));
+    read_tail(row, &fields, at + len, &rest[len..])
+}
+
+/// Reads a SIB byte at this place.
+#[tactic(auto, unfolding(crate::specs::Readings::sib_reading))]
+fn read_sib(row: &Row, fields: &Fields, mode: u8, at: usize, rest: &[u8]) -> Reading
+    requires { at + length rest.now < 2 ^ 64 }
+    ensures { result ≡ sib_reading row.now fields.now mode at rest.now }
+{
+    let [sib, rest @ ..] = rest else {
+        return Reading::More;
+    };
+    let address = Addr {
+        seg: fields.prefixes.seg,
+        base: form::base(mode, sib % 8),
+        index: form::index(*sib),
+        scale: form::scale(*sib),
+        disp: 0,
+    };
+    let len = form::displacement_len(mode, sib % 8);
+    read_displacement(row, fields, address, len, at + 1, rest)
+}
