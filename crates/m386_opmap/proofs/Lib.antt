@@ -1,2 +1,4 @@
 pub mod Find
 pub mod Numbers
+pub mod Prefixing
+pub mod Table

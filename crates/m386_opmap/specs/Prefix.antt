@@ -1,5 +1,5 @@
 -- The bytes that may stand before an opcode, and what they say.
-use Rattle.std.specs.Prelude.{ℕ, ◌==◌, Bool, true, false, ◌||◌, List, [], ◌∷◌, Option, Some, None, is_some, unwrap_or, if◌then◌else◌}
+use Rattle.std.specs.Prelude.{ℕ, ◌==◌, Bool, true, false, ◌||◌, List, [], ◌∷◌, Option, Some, None, unwrap_or, if◌then◌else◌}
 use Rattle.std.specs.List.{list_any}
 use Rattle.m386_opmap.specs.declared.op.Rep.{Rep}
 use Rattle.m386_opmap.specs.declared.op.Rep.TheVariants.{Once, Equal, NotEqual}
@@ -15,10 +15,14 @@ segment_named b =
 abbrev pub rep_named : ℕ → Option Rep
 rep_named b = if b == 0xf3 then Some Equal else if b == 0xf2 then Some NotEqual else None
 
--- A prefix: a segment, 66h for the operand size, LOCK, or a repetition.
+-- the bytes that may stand before an opcode: the segments, 66h for the operand size, LOCK, and the repetitions
+abbrev pub prefix_bytes : List ℕ
+prefix_bytes = 0x26 ∷ 0x2e ∷ 0x36 ∷ 0x3e ∷ 0x64 ∷ 0x65 ∷ 0x66 ∷ 0xf0 ∷ 0xf2 ∷ 0xf3 ∷ []
+
+-- Whether a byte is a prefix.
 -- Source: Intel 80386 PRM 17.2.1
 unfoldable pub is_prefix : ℕ → Bool
-is_prefix b = is_some (segment_named b) || (b == 0x66) || (b == 0xf0) || is_some (rep_named b)
+is_prefix b = list_any (λ p. b == p) prefix_bytes
 
 -- the second, or else the first
 abbrev pub later : {X : Type 0} → Option X → Option X → Option X

@@ -93,3 +93,118 @@ fn read_sib(row: &Row, fields: &Fields, mode: u8, at: usize, rest: &[u8]) -> Rea
     let len = form::displacement_len(mode, sib % 8);
     read_displacement(row, fields, address, len, at + 1, rest)
 }
+
+/// Reads what a ModRM byte names. The byte behind it stands at this place.
+#[tactic(auto, unfolding(crate::specs::Readings::form_reading))]
+fn read_form(row: &Row, fields: &Fields, modrm: u8, at: usize, rest: &[u8]) -> Reading
+    requires { at + length rest.now < 2 ^ 64 }
+    ensures { result ≡ form_reading row.now fields.now modrm at rest.now }
+{
+    let mode = modrm / 64;
+    let register = modrm % 8;
+    if mode == 3 {
+        let mut fields = *fields;
+        fields.place = Some(Arg::Reg(register));
+        return read_tail(row, &fields, at, rest);
+    }
+    if register == 4 {
+        return read_sib(row, fields, mode, at, rest);
+    }
+    let address = Addr {
+        seg: fields.prefixes.seg,
+        base: form::base(mode, register),
+        index: None,
+        scale: 1,
+        disp: 0,
+    };
+    let len = form::displacement_len(mode, register);
+    read_displacement(row, fields, address, len, at, rest)
+}
+
+/// Reads a ModRM byte at this place.
+#[tactic(auto, unfolding(crate::specs::Readings::modrm_reading))]
+fn read_modrm(rows: &[Row], prefixes: &Prefixes, opcode: u16, at: usize, rest: &[u8]) -> Reading
+    requires opcode { opcode < 4096 }
+    requires room { at + length rest.now < 2 ^ 64 }
+    ensures { result ≡ modrm_reading rows.now prefixes.now opcode at rest.now }
+{
+    let [modrm, rest @ ..] = rest else {
+        return Reading::More;
+    };
+    let middle = modrm / 8 % 8;
+    let Some(row) = covering(rows, 8 * opcode + u16::from(middle)) else {
+        return Reading::Refused { at };
+    };
+    if !operand::is_suited(&row, prefixes.lock, modrm / 64 != 3) {
+        return Reading::Refused { at };
+    }
+    let fields = Fields {
+        prefixes: *prefixes,
+        opcode,
+        middle,
+        place: None,
+    };
+    read_form(&row, &fields, *modrm, at + 1, rest)
+}
+
+/// Reads what stands behind an opcode, whose last byte stands at this place.
+#[tactic(auto, unfolding(crate::specs::Readings::opcode_reading))]
+fn read_opcode(rows: &[Row], prefixes: &Prefixes, opcode: u16, at: usize, rest: &[u8]) -> Reading
+    requires opcode { opcode < 4096 }
+    requires room { at + length rest.now + 1 < 2 ^ 64 }
+    ensures { result ≡ opcode_reading rows.now prefixes.now opcode at rest.now }
+{
+    let Some(row) = beginning(rows, prefixes.lock, opcode) else {
+        return Reading::Refused { at };
+    };
+    if operand::is_with_modrm(&row) {
+        return read_modrm(rows, prefixes, opcode, at + 1, rest);
+    }
+    let fields = Fields {
+        prefixes: *prefixes,
+        opcode,
+        middle: 0,
+        place: None,
+    };
+    read_tail(&row, &fields, at + 1, rest)
+}
+
+/// Reads the second byte of an opcode, at this place.
+#[tactic(auto, unfolding(crate::specs::Readings::second_reading))]
+fn read_second(rows: &[Row], prefixes: &Prefixes, at: usize, rest: &[u8]) -> Reading
+    requires { at + length rest.now < 2 ^ 64 }
+    ensures { result ≡ second_reading rows.now prefixes.now at rest.now }
+{
+    let [byte, rest @ ..] = rest else {
+        return Reading::More;
+    };
+    read_opcode(rows, prefixes, 0xf00 + u16::from(*byte), at, rest)
+}
+
+/// Reads an opcode whose first byte stands at this place.
+#[tactic(auto, unfolding(crate::specs::Readings::first_reading))]
+fn read_first(rows: &[Row], prefixes: &Prefixes, byte: u8, at: usize, rest: &[u8]) -> Reading
+    requires { at + length rest.now + 1 < 2 ^ 64 }
+    ensures { result ≡ first_reading rows.now prefixes.now byte at rest.now }
+{
+    if byte == 0x0f {
+        read_second(rows, prefixes, at + 1, rest)
+    } else {
+        read_opcode(rows, prefixes, u16::from(byte), at, rest)
+    }
+}
+
+/// What bytes read as by a table of rows.
+#[tactic(auto, using(crate::proofs::Find::prefixed_steps), unfolding(crate::specs::Readings::reading_by))]
+fn read(rows: &[Row], bytes: &[u8]) -> Reading
+    ensures { result ≡ reading_by rows.now bytes.now }
+{
+    let mut prefixes = Prefixes::none();
+    for (at, byte) in bytes.iter().enumerate() {
+        match prefixes.with(*byte) {
+            Some(said) => prefixes = said,
+            None => return read_first(rows, &prefixes, *byte, at, &bytes[at + 1..]),
+        }
+    }
+    Reading::More
+}

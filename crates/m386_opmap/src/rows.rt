@@ -1,7 +1,9 @@
 //! The opcode table, one row a line. A line has the opcode or the range of opcodes, behind a slash the `/n` of the ModRM byte
 //! where the row has one, the operation, its size, its operands, and `lock` where LOCK may stand before it.
-ghost use Rattle.std.specs.Prelude.{◌≡◌};
+ghost use Rattle.std.specs.Prelude.{◌≡◌, ℕ, true, Contains};
 ghost use Rattle.m386_opmap.specs.Opcodes.{opcode_rows};
+ghost use Rattle.m386_opmap.specs.Rows.{Covers, rising};
+ghost use Rattle.m386_opmap.specs.declared.row.Row.{Row};
 
 use crate::name::Name;
 use crate::row::{Operand, Row, Size};
@@ -406,5 +408,17 @@ pub const ROWS: [Row; 327] = rows![
 /// The table is the one that the manual's opcode map gives.
 pub fn rows_are_the_opcodes()
     ensures { ROWS ≡ opcode_rows }
+{
+}
+
+/// The rows rise, and each ends below the begin of the next.
+pub fn rows_rise()
+    ensures { rising opcode_rows ≡ true }
+{
+}
+
+/// No two rows cover one key.
+pub fn one_row_for_a_key()
+    ensures { (r s : Row) (key : ℕ) → Contains opcode_rows r → Contains opcode_rows s → Covers r key → Covers s key → r ≡ s }
 {
 }

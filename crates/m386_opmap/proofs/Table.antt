@@ -1,0 +1,86 @@
+-- What a table whose rows rise has: no two rows for one key, and a search finds the row of a key.
+use Rattle.std.proofs.Common.{◌≡◌, ℕ, zero, suc, ◌+◌, ◌*◌, ◌<◌, ◌≤◌, ◌⊎◌, inl, inr, List, [], ◌∷◌, length, refl, sym, ◌∙◌, cond, Bool, true, false, ◌&&◌, ◌||◌, not, nat_le, Option, Some, None, arith, subst}
+use Rattle.std.specs.List.{find, Contains, list_all, list_any}
+use Rattle.std.proofs.lemmas.Bool.Decides.{nat_tests}
+use Rattle.m386_opmap.specs.declared.row.Row.{Row}
+use Rattle.m386_opmap.specs.Opcodes.{opcode_rows}
+use Rattle.m386_opmap.specs.Rows.{row_at, row_of, covers, begins, Covers, rising, rising_from}
+
+-- both of two tests that hold together
+pub both_true : (a b : Bool) → a && b ≡ true → (a ≡ true) × (b ≡ true)
+both_true true b h = (refl, h)
+both_true false b h = cc
+
+pub le_from_test : (a b : ℕ) → nat_le a b ≡ true → a ≤ b
+le_from_test a b h = grind (arith, nat_tests)
+
+pub test_from_le : (a b : ℕ) → a ≤ b → nat_le a b ≡ true
+test_from_le a b h = grind (arith, nat_tests)
+
+-- an element is the first or one of the others
+pub contains_cases : {X : Type 0} (x : X) (xs : List X) (y : X) → Contains (x ∷ xs) y → (x ≡ y) ⊎ Contains xs y
+contains_cases x xs y (zero, h, e) = inl e
+contains_cases x xs y (suc k, h, e) = inr (k, omega arith, e)
+
+pub contains_first : {X : Type 0} (x : X) (xs : List X) → Contains (x ∷ xs) x
+contains_first x xs = (0, omega arith, refl)
+
+pub contains_later : {X : Type 0} (x : X) (xs : List X) (y : X) → Contains xs y → Contains (x ∷ xs) y
+contains_later x xs y (k, h, e) = (suc k, omega arith, e)
+
+-- the bounds of a row in a table that rises
+pub rising_bounds : (least : ℕ) (rows : List Row) (r : Row) → rising_from least rows ≡ true → Contains rows r → (least ≤ r.low) × (r.low ≤ r.high)
+rising_bounds least [] r h (k, l, e) = absurd (omega arith)
+rising_bounds least (s ∷ rows) r h c =
+    let p = both_true (nat_le least s.low && nat_le s.low s.high) (rising_from (s.high + 1) rows) h in
+    let q = both_true (nat_le least s.low) (nat_le s.low s.high) p.0 in
+    let low : least ≤ s.low = le_from_test least s.low q.0 in
+    let high : s.low ≤ s.high = le_from_test s.low s.high q.1 in
+    elim (contains_cases s rows r c) [
+      | inl e ↦ (let P : Row → Type 0 = λ x. (least ≤ x.low) × (x.low ≤ x.high) in subst P e (low, high))
+      | inr d ↦ (let b = rising_bounds (s.high + 1) rows r p.1 d in (omega arith, b.1))
+    ]
+
+pub one_covers : (least : ℕ) (rows : List Row) (r s : Row) (key : ℕ) → rising_from least rows ≡ true → Contains rows r → Contains rows s → Covers r key → Covers s key → r ≡ s
+one_covers least [] r s key h (k, l, e) d f g = absurd (omega arith)
+one_covers least (t ∷ rows) r s key h c d f g =
+    let p = both_true (nat_le least t.low && nat_le t.low t.high) (rising_from (t.high + 1) rows) h in
+    elim (contains_cases t rows r c) [
+      | inl e ↦ elim (contains_cases t rows s d) [
+          | inl i ↦ sym e ∙ i
+          | inr i ↦ (let b = rising_bounds (t.high + 1) rows s p.1 i in
+                     let P : Row → Type 0 = λ x. Covers x key in
+                     let k = subst P (sym e) f in absurd (omega (arith, b.0, k.1, g.0)))
+        ]
+      | inr e ↦ elim (contains_cases t rows s d) [
+          | inl i ↦ (let b = rising_bounds (t.high + 1) rows r p.1 e in
+                     let P : Row → Type 0 = λ x. Covers x key in
+                     let k = subst P (sym i) g in absurd (omega (arith, b.0, k.1, f.0)))
+          | inr i ↦ one_covers (t.high + 1) rows r s key p.1 e i f g
+        ]
+    ]
+
+-- no two rows of the opcodes cover one key
+pub one_covers_opcode : (r s : Row) (key : ℕ) → Contains opcode_rows r → Contains opcode_rows s → Covers r key → Covers s key → r ≡ s
+one_covers_opcode r s key = one_covers 0 opcode_rows r s key refl
+
+-- what a search finds stands in the list and passes the test, if one does
+pub record Found (test : Row → Bool) (rows : List Row) : Type 0 where
+  pub row : Row
+  pub found : find test rows ≡ Some row
+  pub listed : Contains rows row
+  pub passes : test row ≡ true
+
+found_first : (test : Row → Bool) (t : Row) (rows : List Row) (b : Bool) → test t ≡ b → (b ≡ false → Found test rows) → Found test (t ∷ rows)
+found_first test t rows true e next = record { row = t; found = rw e refl; listed = contains_first t rows; passes = e }
+found_first test t rows false e next =
+    let f = next refl in
+    record { row = f.row; found = rw e f.found; listed = contains_later t rows f.row f.listed; passes = f.passes }
+
+pub search_finds : (test : Row → Bool) (rows : List Row) (r : Row) → Contains rows r → test r ≡ true → Found test rows
+search_finds test [] r (k, l, e) h = absurd (omega arith)
+search_finds test (t ∷ rows) r c h =
+    found_first test t rows (test t) refl (λ no. elim (contains_cases t rows r c) [
+      | inl e ↦ (let P : Row → Type 0 = λ x. test x ≡ true in let yes = subst P (sym e) h in cc)
+      | inr d ↦ search_finds test rows r d h
+    ])
