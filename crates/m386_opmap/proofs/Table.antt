@@ -1,21 +1,10 @@
 -- What a table whose rows rise has: no two rows for one key, and a search finds the row of a key.
 use Rattle.std.proofs.Common.{◌≡◌, ℕ, zero, suc, ◌+◌, ◌*◌, ◌<◌, ◌≤◌, ◌⊎◌, inl, inr, List, [], ◌∷◌, length, refl, sym, ◌∙◌, cond, Bool, true, false, ◌&&◌, ◌||◌, not, nat_le, Option, Some, None, arith, subst}
 use Rattle.std.specs.List.{find, Contains, list_all, list_any}
-use Rattle.std.proofs.lemmas.Bool.Decides.{nat_tests}
+use Rattle.std.proofs.lemmas.Bool.{and_parts, leb-true}
 use Rattle.m386_opmap.specs.declared.row.Row.{Row}
 use Rattle.m386_opmap.specs.Opcodes.{opcode_rows}
 use Rattle.m386_opmap.specs.Rows.{row_at, row_of, covers, begins, Covers, rising, rising_from}
-
--- both of two tests that hold together
-pub both_true : (a b : Bool) → a && b ≡ true → (a ≡ true) × (b ≡ true)
-both_true true b h = (refl, h)
-both_true false b h = cc
-
-pub le_from_test : (a b : ℕ) → nat_le a b ≡ true → a ≤ b
-le_from_test a b h = grind (arith, nat_tests)
-
-pub test_from_le : (a b : ℕ) → a ≤ b → nat_le a b ≡ true
-test_from_le a b h = grind (arith, nat_tests)
 
 -- an element is the first or one of the others
 pub contains_cases : {X : Type 0} (x : X) (xs : List X) (y : X) → Contains (x ∷ xs) y → (x ≡ y) ⊎ Contains xs y
@@ -32,10 +21,10 @@ contains_later x xs y (k, h, e) = (suc k, omega arith, e)
 pub rising_bounds : (least : ℕ) (rows : List Row) (r : Row) → rising_from least rows ≡ true → Contains rows r → (least ≤ r.low) × (r.low ≤ r.high)
 rising_bounds least [] r h (k, l, e) = absurd (omega arith)
 rising_bounds least (s ∷ rows) r h c =
-    let p = both_true (nat_le least s.low && nat_le s.low s.high) (rising_from (s.high + 1) rows) h in
-    let q = both_true (nat_le least s.low) (nat_le s.low s.high) p.0 in
-    let low : least ≤ s.low = le_from_test least s.low q.0 in
-    let high : s.low ≤ s.high = le_from_test s.low s.high q.1 in
+    let p = and_parts (nat_le least s.low && nat_le s.low s.high) (rising_from (s.high + 1) rows) h in
+    let q = and_parts (nat_le least s.low) (nat_le s.low s.high) p.0 in
+    let low : least ≤ s.low = leb-true least s.low q.0 in
+    let high : s.low ≤ s.high = leb-true s.low s.high q.1 in
     elim (contains_cases s rows r c) [
       | inl e ↦ (let P : Row → Type 0 = λ x. (least ≤ x.low) × (x.low ≤ x.high) in subst P e (low, high))
       | inr d ↦ (let b = rising_bounds (s.high + 1) rows r p.1 d in (omega arith, b.1))
@@ -44,7 +33,7 @@ rising_bounds least (s ∷ rows) r h c =
 pub one_covers : (least : ℕ) (rows : List Row) (r s : Row) (key : ℕ) → rising_from least rows ≡ true → Contains rows r → Contains rows s → Covers r key → Covers s key → r ≡ s
 one_covers least [] r s key h (k, l, e) d f g = absurd (omega arith)
 one_covers least (t ∷ rows) r s key h c d f g =
-    let p = both_true (nat_le least t.low && nat_le t.low t.high) (rising_from (t.high + 1) rows) h in
+    let p = and_parts (nat_le least t.low && nat_le t.low t.high) (rising_from (t.high + 1) rows) h in
     elim (contains_cases t rows r c) [
       | inl e ↦ elim (contains_cases t rows s d) [
           | inl i ↦ sym e ∙ i
