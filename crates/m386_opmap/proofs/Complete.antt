@@ -87,17 +87,17 @@ pub prefixed_first : (rows : List Row) (said : Prefixes) (at b : ℕ) (bytes : L
 unfolding prefixed_reading
 prefixed_first rows said at b bytes h = rw h refl
 
-first_byte : (rows : List Row) (said : Prefixes) (at b : ℕ) (bytes : List ℕ) → (b == 0x0f) ≡ false →
+pub first_byte : (rows : List Row) (said : Prefixes) (at b : ℕ) (bytes : List ℕ) → (b == 0x0f) ≡ false →
     first_reading rows said b at bytes ≡ opcode_reading rows said b at bytes
 unfolding first_reading
 first_byte rows said at b bytes h = rw h refl
 
-first_pair : (rows : List Row) (said : Prefixes) (at b : ℕ) (bytes : List ℕ) →
+pub first_pair : (rows : List Row) (said : Prefixes) (at b : ℕ) (bytes : List ℕ) →
     first_reading rows said 0x0f at (b ∷ bytes) ≡ opcode_reading rows said (0xf00 + b) (at + 1) bytes
 unfolding first_reading second_reading
 first_pair rows said at b bytes = refl
 
-escape_is_no_prefix : is_prefix 0x0f ≡ false
+pub escape_is_no_prefix : is_prefix 0x0f ≡ false
 unfolding is_prefix
 escape_is_no_prefix = refl
 
@@ -157,11 +157,11 @@ pub begun_select : (rows : List Row) (said : Prefixes) (o at : ℕ) (bytes : Lis
 unfolding opcode_reading row_of
 begun_select rows said o at bytes s e = rw e refl
 
-begun_modrm : (rows : List Row) (said : Prefixes) (o at : ℕ) (bytes : List ℕ) (s : Row) → has_modrm s ≡ true →
+pub begun_modrm : (rows : List Row) (said : Prefixes) (o at : ℕ) (bytes : List ℕ) (s : Row) → has_modrm s ≡ true →
     begun_reading (Some s) rows said o at bytes ≡ modrm_reading rows said o (at + 1) bytes
 begun_modrm rows said o at bytes s h = rw h refl
 
-begun_whole : (rows : List Row) (said : Prefixes) (o at : ℕ) (bytes : List ℕ) (s : Row) → has_modrm s ≡ false →
+pub begun_whole : (rows : List Row) (said : Prefixes) (o at : ℕ) (bytes : List ℕ) (s : Row) → has_modrm s ≡ false →
     begun_reading (Some s) rows said o at bytes ≡ tail_reading s (record { prefixes = said; opcode = o; middle = 0; place = None }) (at + 1) bytes
 begun_whole rows said o at bytes s h = rw h refl
 

@@ -2,5 +2,8 @@ pub mod Complete
 pub mod Find
 pub mod Lawful
 pub mod Numbers
+pub mod OpcodeOutcomes
+pub mod Outcomes
 pub mod Prefixing
+pub mod Sound
 pub mod Table

@@ -8,7 +8,7 @@ use Rattle.m386_opmap.specs.declared.op.Rep.{Rep}
 use Rattle.m386_opmap.specs.declared.op.Rep.TheVariants.{Once}
 use Rattle.m386_opmap.specs.declared.row.Row.{Row}
 use Rattle.m386_opmap.specs.Prefix.{is_prefix, with_prefix, no_prefixes, prefixes_of, later, last_of, segment_named, rep_named}
-use Rattle.m386_opmap.specs.Readings.{prefixed_reading}
+use Rattle.m386_opmap.specs.Readings.{prefixed_reading, reading_by}
 
 -- what is said after these bytes
 unfoldable pub said_after : Prefixes → List ℕ → Prefixes
@@ -87,3 +87,19 @@ joined-prefixes bs = same_prefixes _ _ _ _ _ _ _ _ (later_none (last_of segment_
 -- what is said after prefixes is what they say
 pub said_after-none : (bs : List ℕ) → said_after no_prefixes bs ≡ prefixes_of bs
 said_after-none bs = said_after-joined no_prefixes bs ∙ joined-prefixes bs
+
+said_after-push : (said : Prefixes) (bs : List ℕ) (b : ℕ) → said_after said (bs ++ b ∷ []) ≡ with_prefix (said_after said bs) b
+unfolding said_after
+said_after-push said [] b = refl
+said_after-push said (c ∷ bs) b = said_after-push (with_prefix said c) bs b
+
+-- one more prefix
+pub prefixes_of-push : (bs : List ℕ) (b : ℕ) → prefixes_of (bs ++ b ∷ []) ≡ with_prefix (prefixes_of bs) b
+prefixes_of-push bs b =
+    sym (said_after-none (bs ++ b ∷ [])) ∙ said_after-push no_prefixes bs b ∙ ap (λ s. with_prefix s b) (said_after-none bs)
+
+-- what bytes behind prefixes read as
+pub walk : (rs : List Row) (ps bs : List ℕ) → All (λ p. is_prefix p ≡ true) ps → reading_by rs (ps ++ bs) ≡ prefixed_reading rs (prefixes_of ps) (length ps) bs
+unfolding reading_by
+walk rs ps bs h =
+    prefixed_walk rs no_prefixes 0 (length ps) ps bs h (omega arith) ∙ ap (λ s. prefixed_reading rs s (length ps) bs) (said_after-none ps)

@@ -73,3 +73,20 @@ search_finds test (t ∷ rows) r c h =
       | inl e ↦ (let P : Row → Type 0 = λ x. test x ≡ true in let yes = subst P (sym e) h in cc)
       | inr d ↦ search_finds test rows r d h
     ])
+
+-- what a search finds
+pub record IsFound (test : Row → Bool) (rows : List Row) (r : Row) : Type 0 where
+  pub listed : Contains rows r
+  pub passes : test r ≡ true
+
+found_cases : (test : Row → Bool) (t : Row) (rows : List Row) (r : Row) (b : Bool) → test t ≡ b → cond b (Some t) (find test rows) ≡ Some r → (find test rows ≡ Some r → IsFound test rows r) → IsFound test (t ∷ rows) r
+found_cases test t rows r true e h next =
+    let same : t ≡ r = cc in
+    let P : Row → Type 0 = λ x. IsFound test (t ∷ rows) x in
+    subst P same (record { listed = contains_first t rows; passes = e })
+found_cases test t rows r false e h next =
+    let f = next h in record { listed = contains_later t rows r f.listed; passes = f.passes }
+
+pub found_is : (test : Row → Bool) (rows : List Row) (r : Row) → find test rows ≡ Some r → IsFound test rows r
+found_is test [] r h = cc
+found_is test (t ∷ rows) r h = found_cases test t rows r (test t) refl h (found_is test rows r)
