@@ -5,5 +5,6 @@ pub mod Numbers
 pub mod OpcodeOutcomes
 pub mod Outcomes
 pub mod Prefixing
+pub mod ReadingOutcomes
 pub mod Sound
 pub mod Table

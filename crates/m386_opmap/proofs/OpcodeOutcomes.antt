@@ -81,7 +81,7 @@ module _ (rows : List Row) (law : Lawful rows) (ps : List ℕ) (prefixes : All (
               s is.listed is.passes t bytes are)
           (λ t. whole_outcome s is.listed is.passes t bytes are)
 
-  opcode_outcome : (bytes : List ℕ) → AreBytes ((ps ++ opcode_bytes o) ++ bytes) →
+  pub opcode_outcome : (bytes : List ℕ) → AreBytes ((ps ++ opcode_bytes o) ++ bytes) →
       Outcome rows ((ps ++ opcode_bytes o) ++ bytes) (opcode_reading rows (prefixes_of ps) o at bytes)
   unfolding opcode_reading
   opcode_outcome bytes are = begun_outcome (row_of (prefixes_of ps).lock o rows) refl bytes are
@@ -116,13 +116,13 @@ opens_front rows bytes more whole e o =
     record { op = o.op; rest = more ++ o.rest; spelled = respelled rows _ _ _ (ap (λ x. x ++ o.rest) (sym e) ∙ append_assoc bytes more o.rest) o.spelled }
 
 -- prefixes begin a spelling
-opens_prefixes : (rows : List Row) (law : Lawful rows) (ps : List ℕ) (prefixes : All (λ p. is_prefix p ≡ true) ps) → AreBytes ps → Opens rows ps
+pub opens_prefixes : (rows : List Row) (law : Lawful rows) (ps : List ℕ) (prefixes : All (λ p. is_prefix p ≡ true) ps) → AreBytes ps → Opens rows ps
 opens_prefixes rows law ps prefixes are =
     opens_front rows ps (0 ∷ []) (ps ++ 0 ∷ []) refl
         (opens_locked rows law ps prefixes 0 (All-push (λ b. b < 256) ps 0 are (omega arith)) law.opens)
 
 -- and so does the byte 0F behind them
-opens_escape : (rows : List Row) (law : Lawful rows) (ps : List ℕ) (prefixes : All (λ p. is_prefix p ≡ true) ps) → AreBytes ps → Opens rows (ps ++ 0x0f ∷ [])
+pub opens_escape : (rows : List Row) (law : Lawful rows) (ps : List ℕ) (prefixes : All (λ p. is_prefix p ≡ true) ps) → AreBytes ps → Opens rows (ps ++ 0x0f ∷ [])
 opens_escape rows law ps prefixes are =
     opens_front rows (ps ++ 0x0f ∷ []) (0xab ∷ []) (ps ++ 0x0f ∷ 0xab ∷ []) (one_more ps 0x0f (0xab ∷ []))
         (opens_locked rows law ps prefixes 0xfab
