@@ -1,8 +1,8 @@
 -- What is spelled is read, whatever follows it.
-use Rattle.std.specs.Prelude.{◌==◌, is_some, if◌then◌else◌, Contains}
-use Rattle.std.proofs.Common.{◌≡◌, ℕ, zero, suc, ◌+◌, ◌-◌, ◌*◌, ◌/◌, ◌%◌, ◌<◌, ◌≤◌, ◌≢◌, ◌⊎◌, inl, inr, List, [], ◌∷◌, ◌++◌, length, take, drop, refl, sym, ◌∙◌, ap, cond, Bool, true, false, ◌&&◌, ◌||◌, not, nat_le, nat_lt, Option, Some, None, arith, subst, length-append, append_assoc}
+use Rattle.std.specs.Prelude.{◌==◌, is_some, Contains}
+use Rattle.std.proofs.Common.{◌≡◌, ℕ, ◌+◌, ◌-◌, ◌*◌, ◌<◌, ◌≤◌, ◌≢◌, inl, inr, List, [], ◌∷◌, ◌++◌, length, refl, sym, ◌∙◌, ap, cond, Bool, true, false, ◌&&◌, ◌||◌, not, nat_le, nat_lt, Option, Some, None, arith, subst, length-append, append_assoc}
 use Rattle.std.specs.List.{find}
-use Rattle.std.proofs.lemmas.Bool.{cases_Bool, and_parts, and_from, leb-true, le-leb, le-ltb, lt-ltb, eq-eqb, ne_eqb, both_ways}
+use Rattle.std.proofs.lemmas.Bool.{cases_Bool, and_parts, and_from, leb-true, le-leb, le-ltb, lt-ltb, eq-eqb, ne_eqb}
 use Rattle.std.proofs.lemmas.List.{take_at, drop_at}
 use Rattle.m386_opmap.specs.declared.fields.Prefixes.{Prefixes}
 use Rattle.m386_opmap.specs.declared.fields.Fields.{Fields}
@@ -10,18 +10,17 @@ use Rattle.m386_opmap.specs.declared.op.Addr.{Addr}
 use Rattle.m386_opmap.specs.declared.op.Arg.{Arg}
 use Rattle.m386_opmap.specs.declared.op.Arg.TheVariants.{Reg, Mem}
 use Rattle.m386_opmap.specs.declared.op.Op.{Op}
-use Rattle.m386_opmap.specs.declared.outcome.Reading.{Reading}
-use Rattle.m386_opmap.specs.declared.outcome.Reading.TheVariants.{Spelled, More, Refused}
+use Rattle.m386_opmap.specs.declared.outcome.Reading.TheVariants.{Spelled}
 use Rattle.m386_opmap.specs.declared.row.Row.{Row}
 use Rattle.m386_opmap.specs.Forms.{Form, absent, register, based, indexed, top, middle, low, displacement, displacement_length, base_of, index_of, scale_of}
 use Rattle.m386_opmap.specs.Operands.{has_modrm, suits, is_memory, wants_memory, wants_register, tail_length, operation}
 use Rattle.m386_opmap.specs.Prefix.{is_prefix, no_prefixes, prefixes_of}
-use Rattle.m386_opmap.specs.Readings.{tail_reading, displaced_reading, sib_reading, form_reading, selected_reading, modrm_reading, begun_reading, opcode_reading, second_reading, first_reading, prefixed_reading, reading_by, with_place}
+use Rattle.m386_opmap.specs.Readings.{tail_reading, displaced_reading, sib_reading, form_reading, modrm_reading, begun_reading, opcode_reading, second_reading, first_reading, prefixed_reading, reading_by, with_place}
 use Rattle.m386_opmap.specs.Rows.{row_at, row_of, covers, begins, Covers}
 use Rattle.m386_opmap.specs.Spelling.{SpelledBy, opcode_bytes}
-use Rattle.m386_opmap.proofs.Lawful.{Lawful, lawful_row, whole_row, begins_from, begins_like, IsOpcode, byte, pair, opcode_of_row}
-use Rattle.m386_opmap.proofs.Prefixing.{said_after, prefixed_walk, said_after-none}
-use Rattle.m386_opmap.proofs.Table.{one_covers, Found, search_finds}
+use Rattle.m386_opmap.proofs.Lawful.{Lawful, lawful_row, begins_from, begins_like, IsOpcode, byte, pair, opcode_of_row}
+use Rattle.m386_opmap.proofs.Prefixing.{prefixed_walk, said_after-none}
+use Rattle.m386_opmap.proofs.Table.{one_covers, search_finds}
 
 -- the bytes behind opcode and ModRM
 pub tail_walk : (r : Row) (f : Fields) (at end : ℕ) (tail rest : List ℕ) → length tail ≡ tail_length r f.prefixes.narrow → end ≡ at + length tail →
@@ -228,7 +227,7 @@ complete rows op bytes rest law s =
     let some : 0 < length (opcode_bytes o) = opcode_length o in
     let whole : length bytes ≡ length s.prefixes + (length (opcode_bytes o) + (length s.modrm + length s.tail)) = ap length s.parts ∙ lengths s.prefixes (opcode_bytes o) s.modrm s.tail in
     let first : prefixed_reading rows no_prefixes 0 (bytes ++ rest) ≡ prefixed_reading rows no_prefixes 0 (s.prefixes ++ (opcode_bytes o ++ behind)) =
-        ap (λ b. prefixed_reading rows no_prefixes 0 b) (ap (λ b. b ++ rest) s.parts ∙ regrouped s.prefixes (opcode_bytes o) s.modrm s.tail rest) in
+    ap (λ b. prefixed_reading rows no_prefixes 0 b) (ap (λ b. b ++ rest) s.parts ∙ regrouped s.prefixes (opcode_bytes o) s.modrm s.tail rest) in
     first
     ∙ prefixed_walk rows no_prefixes 0 (length s.prefixes) s.prefixes (opcode_bytes o ++ behind) s.are_prefixes (omega arith)
     ∙ ap (λ p. prefixed_reading rows p (length s.prefixes) (opcode_bytes o ++ behind)) (said_after-none s.prefixes)

@@ -1,5 +1,5 @@
 -- The rows that a search, and the bytes that a reader, has yet to look at.
-use Rattle.std.proofs.Common.{sym, ◌∙◌, take, true, ◌-◌, ◌≡◌, ℕ, ◌+◌, ◌*◌, ◌<◌, ◌≤◌, List, [], ◌∷◌, length, drop, get_or, refl, add-one, drop-cons, cond, Bool, false, ◌&&◌, ◌||◌, not, nat_le, Option, Some, None}
+use Rattle.std.proofs.Common.{sym, ◌∙◌, take, true, ◌-◌, ◌≡◌, ℕ, ◌+◌, ◌*◌, ◌<◌, ◌≤◌, List, length, drop, get_or, refl, add-one, drop-cons, cond, Bool, false, ◌&&◌, ◌||◌, not, nat_le, Option, Some, None}
 use Rattle.std.specs.List.{find}
 use Rattle.std.proofs.lemmas.List.{drop_all, take_rest}
 use Rattle.m386_opmap.specs.declared.row.Row.{Row}
@@ -68,5 +68,5 @@ pub prefixed_stop : (rs : List Row) (said : Prefixes) (at : ℕ) (bytes : List �
 prefixed_stop rs said at bytes o h e n =
     let none : None ≡ cond (is_prefix (get_or bytes at 0)) (Some (with_prefix said (get_or bytes at 0))) None = sym n ∙ e in
     let first : prefixed_reading rs said at (drop at bytes) ≡ first_reading rs said (get_or bytes at 0) at (drop (at + 1) bytes) =
-        prefixed_next rs said at bytes h ∙ stops (is_prefix (get_or bytes at 0)) _ _ _ none in
+    prefixed_next rs said at bytes h ∙ stops (is_prefix (get_or bytes at 0)) _ _ _ none in
     rw (take_rest bytes (at + 1)) (sym first)

@@ -1,17 +1,17 @@
 -- What each row of the opcode table has, by a test that computes, and what follows for the opcodes.
 use Rattle.std.specs.Prelude.{◌==◌}
-use Rattle.std.proofs.Common.{◌≡◌, ℕ, zero, suc, ◌+◌, ◌*◌, ◌/◌, ◌%◌, ◌<◌, ◌≤◌, ◌⊎◌, inl, inr, List, [], ◌∷◌, ◌++◌, length, refl, sym, ◌∙◌, ap, cond, Bool, true, false, ◌&&◌, ◌||◌, not, nat_le, nat_lt, Option, Some, None, arith, subst}
+use Rattle.std.proofs.Common.{◌≡◌, ℕ, ◌+◌, ◌*◌, ◌/◌, ◌%◌, ◌<◌, ◌≤◌, inl, inr, List, [], ◌∷◌, refl, sym, ◌∙◌, ap, Bool, true, false, ◌&&◌, ◌||◌, not, nat_le, nat_lt, arith, subst}
 use Rattle.std.specs.Prelude.{is_some, if◌then◌else◌}
-use Rattle.std.specs.List.{find, Contains, list_all, list_any, All}
-use Rattle.std.proofs.lemmas.Bool.{and_parts, or_parts, or_cases, and_from, or_left, or_right, leb-true, le-leb, ltb-true, eqb-true, eq-eqb, not-true, not_from_true, not_from_false, both_ways, cond-true, cond-false, cases_Bool, cases_lt, or_from}
+use Rattle.std.specs.List.{Contains, list_all, list_any}
+use Rattle.std.proofs.lemmas.Bool.{and_parts, or_parts, or_cases, and_from, leb-true, le-leb, ltb-true, eqb-true, not-true, both_ways, cond-true, cond-false, cases_Bool, cases_lt, or_from}
 use Rattle.std.proofs.lemmas.List.Sums.{AllPass-from_list_all}
 use Rattle.std.proofs.lemmas.List.Elements.{All-contains}
 use Rattle.m386_opmap.specs.declared.row.Row.{Row}
 use Rattle.m386_opmap.specs.Opcodes.{opcode_rows}
 use Rattle.m386_opmap.specs.Operands.{has_modrm, wants_memory, wants_register}
 use Rattle.m386_opmap.specs.Prefix.{is_prefix, prefix_bytes}
-use Rattle.m386_opmap.specs.Rows.{row_at, row_of, covers, begins, Covers, rising, rising_from}
-use Rattle.m386_opmap.proofs.Table.{rising_bounds, one_covers, Found, search_finds}
+use Rattle.m386_opmap.specs.Rows.{row_of, begins, Covers, rising}
+use Rattle.m386_opmap.proofs.Table.{rising_bounds, one_covers}
 
 -- a row with a ModRM byte lies in one opcode, and doesn't want a register alone together with LOCK or memory alone
 abbrev pub is_selected : Row → Bool
@@ -82,10 +82,10 @@ begun lock o r h =
 pub begins_from : (lock : Bool) (o n : ℕ) (r : Row) → n < 8 → Covers r (8 * o + n) → not lock || r.lock ≡ true → begins lock o r ≡ true
 begins_from lock o n r small c l =
     and_from (nat_le r.low (8 * o + 7) && nat_le (8 * o) r.high) (not lock || r.lock)
-        (and_from (nat_le r.low (8 * o + 7)) (nat_le (8 * o) r.high)
-            (le-leb r.low (8 * o + 7) (omega (arith, c.0)))
-            (le-leb (8 * o) r.high (omega (arith, c.1))))
-        l
+    (and_from (nat_le r.low (8 * o + 7)) (nat_le (8 * o) r.high)
+    (le-leb r.low (8 * o + 7) (omega (arith, c.0)))
+    (le-leb (8 * o) r.high (omega (arith, c.1))))
+    l
 
 -- what a number of an opcode is
 pub data IsOpcode (o : ℕ) : Type 0 where
@@ -98,9 +98,9 @@ not_among test (x ∷ xs) o h t =
     let p = and_parts (not (test x)) (list_all (λ b. not (test b)) xs) h in
     elim (cases_Bool (o == x)) [
       | inl e ↦ (let i : o ≡ x = eqb-true o x e in
-                 let P : ℕ → Type 0 = λ y. test y ≡ true in
-                 let yes : test x ≡ true = subst P i t in
-                 absurd (both_ways (test x) (not-true (test x) p.0) yes))
+          let P : ℕ → Type 0 = λ y. test y ≡ true in
+          let yes : test x ≡ true = subst P i t in
+          absurd (both_ways (test x) (not-true (test x) p.0) yes))
       | inr e ↦ or_from (o == x) (list_any (λ q. o == q) xs) e (not_among test xs o p.1 t)
     ]
 
@@ -113,9 +113,9 @@ opcode_of_row o r h b =
     elim (or_cases (nat_lt r.high 2048) (nat_le 30720 r.low && nat_lt r.high 32768) p.0) [
       | inl e ↦ (let l : r.high < 2048 = ltb-true r.high 2048 e in byte (omega (arith, i.high)) apart.1 apart.0)
       | inr e ↦ (let q = and_parts (nat_le 30720 r.low) (nat_lt r.high 32768) e in
-                 let l : 30720 ≤ r.low = leb-true 30720 r.low q.0 in
-                 let m : r.high < 32768 = ltb-true r.high 32768 q.1 in
-                 pair (omega (arith, i.low)) (omega (arith, i.high)))
+          let l : 30720 ≤ r.low = leb-true 30720 r.low q.0 in
+          let m : r.high < 32768 = ltb-true r.high 32768 q.1 in
+          pair (omega (arith, i.low)) (omega (arith, i.high)))
     ]
 
 -- the row that an opcode begins with is the row of a key of the opcode, or both have a ModRM byte
@@ -146,10 +146,10 @@ pub begins_like : (rows : List Row) (lock : Bool) (o n : ℕ) (r s : Row) → La
 begins_like rows lock o n r s law cr cs small c b =
     elim (cases_Bool (has_modrm r)) [
       | inr e ↦ (let same = begins_selected rows lock o n r s law cr cs small c b e in
-                 record { alike = ap has_modrm same; same = λ _. same })
+          record { alike = ap has_modrm same; same = λ _. same })
       | inl e ↦ elim (cases_Bool (has_modrm s)) [
-          | inl f ↦ record { alike = f ∙ sym e; same = λ no. absurd (both_ways (has_modrm r) no e) }
-          | inr f ↦ (let same = begins_whole rows lock o n r s law cr cs small c b f in
-                     record { alike = ap has_modrm same; same = λ _. same })
-        ]
+        | inl f ↦ record { alike = f ∙ sym e; same = λ no. absurd (both_ways (has_modrm r) no e) }
+        | inr f ↦ (let same = begins_whole rows lock o n r s law cr cs small c b f in
+            record { alike = ap has_modrm same; same = λ _. same })
+      ]
     ]

@@ -1,6 +1,7 @@
 pub mod Complete
 pub mod Find
 pub mod Lawful
+pub mod Laws
 pub mod Numbers
 pub mod OpcodeOutcomes
 pub mod Outcomes

@@ -1,26 +1,22 @@
 -- What bytes read as, from the opcode back to the first byte.
-use Rattle.std.specs.Prelude.{◌==◌, is_some, Contains}
-use Rattle.std.specs.List.{find, All}
-use Rattle.std.proofs.Common.{◌≡◌, ℕ, zero, suc, ◌+◌, ◌-◌, ◌*◌, ◌/◌, ◌%◌, ◌<◌, ◌≤◌, ◌≢◌, ◌⊎◌, inl, inr, List, [], ◌∷◌, ◌++◌, length, refl, sym, ◌∙◌, ap, cond, Bool, true, false, ◌&&◌, ◌||◌, not, nat_le, nat_lt, Option, Some, None, arith, subst, length-append, append_assoc}
-use Rattle.std.proofs.lemmas.Bool.{cases_Bool, cond_both, and_parts, and_from, or_parts, le-ltb, lt-ltb, eqb-true, both_ways, not-true, not_from_true}
-use Rattle.std.proofs.lemmas.List.{append-nil}
-use Rattle.std.proofs.lemmas.List.Elements.{All-append, All-head, All-cons, All-nil, All-push}
-use Rattle.m386_opmap.specs.declared.fields.Prefixes.{Prefixes}
-use Rattle.m386_opmap.specs.declared.outcome.Reading.{Reading}
-use Rattle.m386_opmap.specs.declared.outcome.Reading.TheVariants.{Spelled, More, Refused}
+use Rattle.std.specs.Prelude.{is_some, Contains}
+use Rattle.std.specs.List.{All}
+use Rattle.std.proofs.Common.{◌≡◌, ℕ, ◌+◌, ◌*◌, ◌<◌, inl, inr, List, [], ◌∷◌, ◌++◌, length, refl, sym, ◌∙◌, ap, Bool, true, false, ◌&&◌, ◌||◌, not, nat_le, Option, Some, None, arith, append_assoc}
+use Rattle.std.proofs.lemmas.Bool.{cases_Bool, cond_both, and_parts, and_from, or_parts, both_ways}
+use Rattle.std.proofs.lemmas.List.Elements.{All-append, All-cons, All-nil, All-push}
+use Rattle.m386_opmap.specs.declared.outcome.Reading.TheVariants.{More}
 use Rattle.m386_opmap.specs.declared.row.Operand.{Operand}
 use Rattle.m386_opmap.specs.declared.row.Operand.TheVariants.{M}
 use Rattle.m386_opmap.specs.declared.row.Row.{Row}
 use Rattle.m386_opmap.specs.Forms.{absent}
-use Rattle.m386_opmap.specs.Operands.{in_modrm, is_memory_alone, has_modrm, suits, wants_memory, wants_register, tail_length, operation}
-use Rattle.m386_opmap.specs.Prefix.{is_prefix, no_prefixes, prefixes_of, with_prefix}
-use Rattle.m386_opmap.specs.Readings.{modrm_reading, begun_reading, opcode_reading, second_reading, first_reading, prefixed_reading, reading_by, tail_reading}
-use Rattle.m386_opmap.specs.Rows.{row_at, row_of, covers, begins, Covers}
+use Rattle.m386_opmap.specs.Operands.{in_modrm, is_memory_alone, has_modrm, wants_memory, wants_register}
+use Rattle.m386_opmap.specs.Prefix.{is_prefix, prefixes_of}
+use Rattle.m386_opmap.specs.Readings.{modrm_reading, begun_reading, opcode_reading, reading_by, tail_reading}
+use Rattle.m386_opmap.specs.Rows.{row_of, begins}
 use Rattle.m386_opmap.specs.Spelling.{opcode_bytes}
 use Rattle.m386_opmap.proofs.Lawful.{Lawful, lawful_row, whole_row, begun}
-use Rattle.m386_opmap.proofs.Complete.{begun_select, begun_modrm, prefixed_first, first_byte, first_pair, escape_is_no_prefix}
-use Rattle.m386_opmap.proofs.Prefixing.{walk, prefixes_of-push}
-use Rattle.m386_opmap.proofs.Sound.{AreBytes, Outcome, Opens, Stops, front_bytes, back_bytes, respelled, outcome_at, one_more, length_more, tail_outcome}
+use Rattle.m386_opmap.proofs.Complete.{begun_modrm}
+use Rattle.m386_opmap.proofs.Sound.{AreBytes, Outcome, Opens, respelled, one_more, length_more, tail_outcome}
 use Rattle.m386_opmap.proofs.Outcomes.{fields_at, spelled_by, opens, modrm_outcome}
 use Rattle.m386_opmap.proofs.Table.{found_is}
 
@@ -63,10 +59,10 @@ module _ (rows : List Row) (law : Lawful rows) (ps : List ℕ) (prefixes : All (
       let b = begun (prefixes_of ps).lock o s begin in
       let w = whole_row s (lawful_row rows s law listed) without in
       tail_outcome rows (ps ++ opcode_bytes o) (at + 1) s (fields_at ps o 0 None) size
-          (λ tail n all. spelled_by rows s ps o [] tail 0 None listed prefixes all absent without
-              (omega (arith, b.low, w.from), omega (arith, b.high))
-              (suits_whole (prefixes_of ps).lock s.lock (wants_memory s) (wants_register s) b.locked w.unlocked (no_memory s without)) n)
-          bytes are
+      (λ tail n all. spelled_by rows s ps o [] tail 0 None listed prefixes all absent without
+      (omega (arith, b.low, w.from), omega (arith, b.high))
+      (suits_whole (prefixes_of ps).lock s.lock (wants_memory s) (wants_register s) b.locked w.unlocked (no_memory s without)) n)
+      bytes are
 
   begun_outcome : (found : Option Row) → row_of (prefixes_of ps).lock o rows ≡ found → (bytes : List ℕ) → AreBytes ((ps ++ opcode_bytes o) ++ bytes) →
       Outcome rows ((ps ++ opcode_bytes o) ++ bytes) (begun_reading found rows (prefixes_of ps) o at bytes)
@@ -76,10 +72,10 @@ module _ (rows : List Row) (law : Lawful rows) (ps : List ℕ) (prefixes : All (
   begun_outcome (Some s) e bytes are =
       let is = found_is (begins (prefixes_of ps).lock o) rows s e in
       cond_both (has_modrm s) (modrm_reading rows (prefixes_of ps) o (at + 1) bytes) (tail_reading s (fields_at ps o 0 None) (at + 1) bytes) (Outcome rows ((ps ++ opcode_bytes o) ++ bytes))
-          (λ t. modrm_outcome rows law ps prefixes o (at + 1) size
-              (λ next. ap (λ x. reading_by rows x) (joined next) ∙ found_reads (Some s) e next ∙ begun_modrm rows (prefixes_of ps) o at next s t)
-              s is.listed is.passes t bytes are)
-          (λ t. whole_outcome s is.listed is.passes t bytes are)
+      (λ t. modrm_outcome rows law ps prefixes o (at + 1) size
+      (λ next. ap (λ x. reading_by rows x) (joined next) ∙ found_reads (Some s) e next ∙ begun_modrm rows (prefixes_of ps) o at next s t)
+      s is.listed is.passes t bytes are)
+      (λ t. whole_outcome s is.listed is.passes t bytes are)
 
   pub opcode_outcome : (bytes : List ℕ) → AreBytes ((ps ++ opcode_bytes o) ++ bytes) →
       Outcome rows ((ps ++ opcode_bytes o) ++ bytes) (opcode_reading rows (prefixes_of ps) o at bytes)
@@ -119,12 +115,12 @@ opens_front rows bytes more whole e o =
 pub opens_prefixes : (rows : List Row) (law : Lawful rows) (ps : List ℕ) (prefixes : All (λ p. is_prefix p ≡ true) ps) → AreBytes ps → Opens rows ps
 opens_prefixes rows law ps prefixes are =
     opens_front rows ps (0 ∷ []) (ps ++ 0 ∷ []) refl
-        (opens_locked rows law ps prefixes 0 (All-push (λ b. b < 256) ps 0 are (omega arith)) law.opens)
+    (opens_locked rows law ps prefixes 0 (All-push (λ b. b < 256) ps 0 are (omega arith)) law.opens)
 
 -- and so does the byte 0F behind them
 pub opens_escape : (rows : List Row) (law : Lawful rows) (ps : List ℕ) (prefixes : All (λ p. is_prefix p ≡ true) ps) → AreBytes ps → Opens rows (ps ++ 0x0f ∷ [])
 opens_escape rows law ps prefixes are =
     opens_front rows (ps ++ 0x0f ∷ []) (0xab ∷ []) (ps ++ 0x0f ∷ 0xab ∷ []) (one_more ps 0x0f (0xab ∷ []))
-        (opens_locked rows law ps prefixes 0xfab
-            (All-append (λ b. b < 256) ps (0x0f ∷ 0xab ∷ []) are (All-cons (λ b. b < 256) 0x0f (0xab ∷ []) (omega arith) (All-cons (λ b. b < 256) 0xab [] (omega arith) (All-nil (λ b. b < 256)))))
-            law.opens_second)
+    (opens_locked rows law ps prefixes 0xfab
+    (All-append (λ b. b < 256) ps (0x0f ∷ 0xab ∷ []) are (All-cons (λ b. b < 256) 0x0f (0xab ∷ []) (omega arith) (All-cons (λ b. b < 256) 0xab [] (omega arith) (All-nil (λ b. b < 256)))))
+    law.opens_second)

@@ -1,28 +1,23 @@
 -- What bytes read as, from the ModRM byte back to the first prefix.
-use Rattle.std.specs.Prelude.{◌==◌, is_some, if◌then◌else◌, Contains, replicate}
-use Rattle.std.specs.List.{find, All}
-use Rattle.std.proofs.Common.{◌≡◌, ℕ, zero, suc, ◌+◌, ◌-◌, ◌*◌, ◌/◌, ◌%◌, ◌<◌, ◌≤◌, ◌≢◌, ◌⊎◌, inl, inr, List, [], ◌∷◌, ◌++◌, length, take, drop, refl, sym, ◌∙◌, ap, cond, Bool, true, false, ◌&&◌, ◌||◌, not, nat_le, nat_lt, Option, Some, None, arith, subst, length-append, append_assoc}
-use Rattle.std.proofs.lemmas.Bool.{cases_Bool, cond_both, and_parts, and_from, leb-true, le-leb, ltb-true, ltb-false, le-ltb, lt-ltb, eqb-true, eqb-false, both_ways, not-true, not_from_false}
+use Rattle.std.specs.Prelude.{◌==◌, is_some, Contains, replicate}
+use Rattle.std.specs.List.{All}
+use Rattle.std.proofs.Common.{◌≡◌, ℕ, ◌+◌, ◌*◌, ◌/◌, ◌%◌, ◌<◌, ◌≤◌, inl, inr, List, [], ◌∷◌, ◌++◌, length, refl, sym, ◌∙◌, ap, Bool, true, false, ◌&&◌, ◌||◌, not, nat_le, Option, Some, None, arith, subst, append_assoc}
+use Rattle.std.proofs.lemmas.Bool.{cases_Bool, cond_both, and_parts, leb-true, eqb-true}
 use Rattle.std.proofs.lemmas.List.{append-nil, length-replicate}
-use Rattle.std.proofs.lemmas.List.Elements.{All-append, All-head, All-cons, All-nil, All-push}
-use Rattle.m386_opmap.specs.declared.fields.Prefixes.{Prefixes}
+use Rattle.std.proofs.lemmas.List.Elements.{All-append, All-cons}
 use Rattle.m386_opmap.specs.declared.fields.Fields.{Fields}
 use Rattle.m386_opmap.specs.declared.op.Arg.{Arg}
 use Rattle.m386_opmap.specs.declared.op.Arg.TheVariants.{Reg, Mem}
-use Rattle.m386_opmap.specs.declared.op.Op.{Op}
-use Rattle.m386_opmap.specs.declared.outcome.Reading.{Reading}
-use Rattle.m386_opmap.specs.declared.outcome.Reading.TheVariants.{Spelled, More, Refused}
+use Rattle.m386_opmap.specs.declared.outcome.Reading.TheVariants.{More, Refused}
 use Rattle.m386_opmap.specs.declared.row.Row.{Row}
-use Rattle.m386_opmap.specs.Forms.{Form, absent, register, based, top, middle, low, displacement_length, base_of}
+use Rattle.m386_opmap.specs.Forms.{Form, register, based, top, middle, low, base_of}
 use Rattle.m386_opmap.specs.Operands.{has_modrm, suits, is_memory, wants_memory, wants_register, tail_length, operation}
-use Rattle.m386_opmap.specs.Prefix.{is_prefix, no_prefixes, prefixes_of, with_prefix}
-use Rattle.m386_opmap.specs.Readings.{form_reading, selected_reading, modrm_reading, begun_reading, opcode_reading, second_reading, first_reading, prefixed_reading, reading_by, with_place, tail_reading}
-use Rattle.m386_opmap.specs.Rows.{row_at, row_of, covers, begins, Covers}
+use Rattle.m386_opmap.specs.Prefix.{is_prefix, prefixes_of}
+use Rattle.m386_opmap.specs.Readings.{form_reading, selected_reading, modrm_reading, reading_by}
+use Rattle.m386_opmap.specs.Rows.{row_at, covers, begins, Covers}
 use Rattle.m386_opmap.specs.Spelling.{SpelledBy, opcode_bytes}
-use Rattle.m386_opmap.proofs.Lawful.{Lawful, lawful_row, selected, whole_row, begins_from, begins_like, begun}
-use Rattle.m386_opmap.proofs.Complete.{begun_select, begun_modrm}
-use Rattle.m386_opmap.proofs.Prefixing.{walk, prefixes_of-push}
-use Rattle.m386_opmap.proofs.Sound.{AreBytes, Outcome, Opens, Stops, respelled, outcome_at, one_more, length_more, zeros_are_bytes, tail_outcome, form_outcome}
+use Rattle.m386_opmap.proofs.Lawful.{Lawful, lawful_row, selected, begins_like, begun}
+use Rattle.m386_opmap.proofs.Sound.{AreBytes, Outcome, Opens, Stops, respelled, outcome_at, one_more, length_more, zeros_are_bytes, form_outcome}
 use Rattle.m386_opmap.proofs.Table.{found_is, rising_bounds}
 
 -- the fields of an instruction behind its opcode
@@ -37,10 +32,23 @@ pub spelled_by : (rows : List Row) (r : Row) (ps : List ℕ) (o : ℕ) (modrm ta
     SpelledBy rows (operation r (fields_at ps o mid place) tail) ((ps ++ opcode_bytes o) ++ (modrm ++ tail))
 spelled_by rows r ps o modrm tail mid place listed prefixes are form wanted covered suited whole =
     record {
-        row = r; listed = listed; prefixes = ps; opcode = o; modrm = modrm; tail = tail;
-        parts = append_assoc ps (opcode_bytes o) (modrm ++ tail);
-        are_bytes = are; are_prefixes = prefixes; middle = mid; place = place; form = form; wanted = wanted;
-        covered = covered; suited = suited; whole = whole; spelled = refl
+      row = r;
+      listed = listed;
+      prefixes = ps;
+      opcode = o;
+      modrm = modrm;
+      tail = tail;
+      parts = append_assoc ps (opcode_bytes o) (modrm ++ tail);
+      are_bytes = are;
+      are_prefixes = prefixes;
+      middle = mid;
+      place = place;
+      form = form;
+      wanted = wanted;
+      covered = covered;
+      suited = suited;
+      whole = whole;
+      spelled = refl;
     }
 
 suits_memory : (lock l wm wr : Bool) → not lock || l ≡ true → wr ≡ false → (not lock || l && true) && (not wm || true) && (not wr || not true) ≡ true
@@ -74,11 +82,11 @@ module _ (rows : List Row) (law : Lawful rows) (ps : List ℕ) (prefixes : All (
       let fill : AreBytes (m ∷ replicate k 0) = All-cons (λ b. b < 256) m (replicate k 0) byte (zeros_are_bytes k) in
       let key = opens_key in
       record {
-          op = operation s (fields_at ps o (middle m) (Some place)) (replicate k 0);
-          rest = m ∷ replicate k 0;
-          spelled = spelled_by rows s ps o (m ∷ []) (replicate k 0) (middle m) (Some place) listed prefixes
-              (All-append (λ b. b < 256) (ps ++ opcode_bytes o) (m ∷ replicate k 0) are fill) form with
-              (omega (arith, key.0, key.1, mid), omega (arith, key.0, key.1, mid)) suited (length-replicate k 0)
+        op = operation s (fields_at ps o (middle m) (Some place)) (replicate k 0);
+        rest = m ∷ replicate k 0;
+        spelled = spelled_by rows s ps o (m ∷ []) (replicate k 0) (middle m) (Some place) listed prefixes
+            (All-append (λ b. b < 256) (ps ++ opcode_bytes o) (m ∷ replicate k 0) are fill) form with
+            (omega (arith, key.0, key.1, mid), omega (arith, key.0, key.1, mid)) suited (length-replicate k 0);
       }
 
   opens_memory : wants_register s ≡ false → Opens rows (ps ++ opcode_bytes o)
@@ -88,8 +96,8 @@ module _ (rows : List Row) (law : Lawful rows) (ps : List ℕ) (prefixes : All (
       let l : low m ≡ 0 = omega arith in
       let b = begun (prefixes_of ps).lock o s begin in
       opens_with m (Mem (record { seg = (prefixes_of ps).seg; base = base_of (top m) (low m); index = None; scale = 1; disp = _ })) (omega arith) (omega arith)
-          (based m [] (omega (arith, t)) (omega (arith, l)) (rw (t, l) refl))
-          (suits_memory (prefixes_of ps).lock s.lock (wants_memory s) (wants_register s) b.locked e)
+      (based m [] (omega (arith, t)) (omega (arith, l)) (rw (t, l) refl))
+      (suits_memory (prefixes_of ps).lock s.lock (wants_memory s) (wants_register s) b.locked e)
 
   opens_register : wants_register s ≡ true → Opens rows (ps ++ opcode_bytes o)
   opens_register e =
@@ -97,7 +105,7 @@ module _ (rows : List Row) (law : Lawful rows) (ps : List ℕ) (prefixes : All (
       let b = begun (prefixes_of ps).lock o s begin in
       let p = and_parts (s.low / 8 == s.high / 8) (not (wants_register s && (s.lock || wants_memory s))) (selected s (lawful_row rows s law listed) with) in
       opens_with m (Reg (low m)) (omega arith) (omega arith) (register m (omega arith))
-          (suits_register (prefixes_of ps).lock s.lock (wants_memory s) (wants_register s) b.locked e p.1)
+      (suits_register (prefixes_of ps).lock s.lock (wants_memory s) (wants_register s) b.locked e p.1)
 
   pub opens : Opens rows (ps ++ opcode_bytes o)
   opens = elim (cases_Bool (wants_register s)) [ inl e ↦ opens_register e | inr e ↦ opens_memory e ]
@@ -132,12 +140,12 @@ module _ (rows : List Row) (law : Lawful rows) (ps : List ℕ) (prefixes : All (
       let covered : Covers r (8 * o + middle m) = (leb-true r.low (8 * o + middle m) p.0, leb-true (8 * o + middle m) r.high p.1) in
       let like = begins_like rows lock o (middle m) r s law is.listed listed (omega arith) covered begin in
       cond_both (suits r lock (not (top m == 3))) (form_reading r f m (at + 1) bytes) (Refused at) (Outcome rows (c ++ m ∷ bytes))
-          (λ t. outcome_at rows _ _ _ (one_more c m bytes)
-              (form_outcome rows (c ++ m ∷ []) (at + 1) r f m (length_more c m at end)
-                  (λ ms place tail form memory size all. respelled rows _ _ _ (sym (one_more c m (ms ++ tail)))
-                      (spelled_by rows r ps o (m ∷ ms) tail (middle m) (Some place) is.listed prefixes (subst P (one_more c m (ms ++ tail)) all) form (sym like.alike ∙ with) covered (rw memory t) size))
-                  bytes (subst P (sym (one_more c m bytes)) are)))
-          (λ t. refuses m bytes (λ next. byte_read m next (Some r) e ∙ rw t refl))
+      (λ t. outcome_at rows _ _ _ (one_more c m bytes)
+      (form_outcome rows (c ++ m ∷ []) (at + 1) r f m (length_more c m at end)
+      (λ ms place tail form memory size all. respelled rows _ _ _ (sym (one_more c m (ms ++ tail)))
+      (spelled_by rows r ps o (m ∷ ms) tail (middle m) (Some place) is.listed prefixes (subst P (one_more c m (ms ++ tail)) all) form (sym like.alike ∙ with) covered (rw memory t) size))
+      bytes (subst P (sym (one_more c m bytes)) are)))
+      (λ t. refuses m bytes (λ next. byte_read m next (Some r) e ∙ rw t refl))
 
   pub modrm_outcome : (s : Row) → Contains rows s → begins (prefixes_of ps).lock o s ≡ true → has_modrm s ≡ true → (bytes : List ℕ) → AreBytes ((ps ++ opcode_bytes o) ++ bytes) →
       Outcome rows ((ps ++ opcode_bytes o) ++ bytes) (modrm_reading rows (prefixes_of ps) o at bytes)

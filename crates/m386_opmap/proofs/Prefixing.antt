@@ -1,11 +1,10 @@
 -- What prefixes say, one after another and all together.
 use Rattle.std.specs.Prelude.{◌==◌}
-use Rattle.std.proofs.Common.{◌≡◌, ℕ, zero, suc, ◌+◌, List, [], ◌∷◌, ◌++◌, length, refl, sym, ◌∙◌, ap, cond, Bool, true, false, ◌||◌, Option, Some, None, unwrap_or, arith, add-zero}
+use Rattle.std.proofs.Common.{◌≡◌, ℕ, ◌+◌, List, [], ◌∷◌, ◌++◌, length, refl, sym, ◌∙◌, ap, Bool, true, false, ◌||◌, Option, Some, None, unwrap_or, arith, add-zero}
 use Rattle.std.specs.List.{list_any, All}
 use Rattle.std.proofs.lemmas.List.Elements.{All-head, All-tail}
 use Rattle.m386_opmap.specs.declared.fields.Prefixes.{Prefixes}
 use Rattle.m386_opmap.specs.declared.op.Rep.{Rep}
-use Rattle.m386_opmap.specs.declared.op.Rep.TheVariants.{Once}
 use Rattle.m386_opmap.specs.declared.row.Row.{Row}
 use Rattle.m386_opmap.specs.Prefix.{is_prefix, with_prefix, no_prefixes, prefixes_of, later, last_of, segment_named, rep_named}
 use Rattle.m386_opmap.specs.Readings.{prefixed_reading, reading_by}
@@ -49,10 +48,10 @@ unwrap_later a (Some x) d = refl
 joined : Prefixes → List ℕ → Prefixes
 joined said bs =
     record {
-        seg = later said.seg (last_of segment_named bs);
-        narrow = said.narrow || list_any (λ b. b == 0x66) bs;
-        lock = said.lock || list_any (λ b. b == 0xf0) bs;
-        rep = unwrap_or (last_of rep_named bs) said.rep
+      seg = later said.seg (last_of segment_named bs);
+      narrow = said.narrow || list_any (λ b. b == 0x66) bs;
+      lock = said.lock || list_any (λ b. b == 0xf0) bs;
+      rep = unwrap_or (last_of rep_named bs) said.rep;
     }
 
 same_prefixes : (s s' : Option ℕ) (n n' l l' : Bool) (r r' : Rep) → s ≡ s' → n ≡ n' → l ≡ l' → r ≡ r' →

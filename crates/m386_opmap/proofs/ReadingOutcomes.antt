@@ -1,14 +1,14 @@
 -- What each string of bytes reads as.
 use Rattle.std.specs.Prelude.{◌==◌}
 use Rattle.std.specs.List.{All}
-use Rattle.std.proofs.Common.{◌≡◌, ℕ, ◌+◌, ◌-◌, ◌<◌, ◌≤◌, List, [], ◌∷◌, ◌++◌, length, refl, sym, ◌∙◌, ap, Bool, true, false, arith, subst, length-append}
+use Rattle.std.proofs.Common.{◌≡◌, ℕ, ◌+◌, ◌-◌, ◌<◌, ◌≤◌, List, [], ◌∷◌, ◌++◌, length, refl, sym, ◌∙◌, ap, true, false, arith, subst}
 use Rattle.std.proofs.lemmas.Bool.{cond_both, le-ltb, lt-ltb, eqb-true}
 use Rattle.std.proofs.lemmas.List.{append-nil}
 use Rattle.std.proofs.lemmas.List.Elements.{All-head, All-nil, All-push}
 use Rattle.m386_opmap.specs.declared.outcome.Reading.{Reading}
-use Rattle.m386_opmap.specs.declared.outcome.Reading.TheVariants.{Spelled, More, Refused}
+use Rattle.m386_opmap.specs.declared.outcome.Reading.TheVariants.{More}
 use Rattle.m386_opmap.specs.declared.row.Row.{Row}
-use Rattle.m386_opmap.specs.Prefix.{is_prefix, no_prefixes, prefixes_of, with_prefix}
+use Rattle.m386_opmap.specs.Prefix.{is_prefix, prefixes_of, with_prefix}
 use Rattle.m386_opmap.specs.Readings.{opcode_reading, second_reading, first_reading, prefixed_reading, reading_by}
 use Rattle.m386_opmap.specs.Spelling.{opcode_bytes}
 use Rattle.m386_opmap.proofs.Lawful.{Lawful}
@@ -44,9 +44,9 @@ module _ (rows : List Row) (law : Lawful rows) (ps : List ℕ) (prefixes : All (
       let whole : (ps ++ opcode_bytes b) ++ bytes ≡ ps ++ b ∷ bytes = ap (λ x. x ++ bytes) (sym join) ∙ one_more ps b bytes in
       let P : List ℕ → Type 0 = AreBytes in
       outcome_at rows _ _ _ whole
-          (opcode_outcome rows law ps prefixes b (length ps) ps b join refl prefixes_read
-              (λ next. walk rows ps (b ∷ next) prefixes ∙ prefixed_first rows (prefixes_of ps) (length ps) b next apart ∙ first_byte rows (prefixes_of ps) (length ps) b next other)
-              bytes (subst P (sym whole) are))
+      (opcode_outcome rows law ps prefixes b (length ps) ps b join refl prefixes_read
+      (λ next. walk rows ps (b ∷ next) prefixes ∙ prefixed_first rows (prefixes_of ps) (length ps) b next apart ∙ first_byte rows (prefixes_of ps) (length ps) b next other)
+      bytes (subst P (sym whole) are))
 
   second_outcome : (bytes : List ℕ) → AreBytes (ps ++ 0x0f ∷ bytes) → Outcome rows (ps ++ 0x0f ∷ bytes) (second_reading rows (prefixes_of ps) (length ps + 1) bytes)
   unfolding second_reading
@@ -57,22 +57,22 @@ module _ (rows : List Row) (law : Lawful rows) (ps : List ℕ) (prefixes : All (
       let whole : (ps ++ opcode_bytes (0xf00 + b)) ++ bytes ≡ ps ++ 0x0f ∷ b ∷ bytes = ap (λ x. x ++ bytes) (sym join) ∙ one_more front b bytes ∙ one_more ps 0x0f (b ∷ bytes) in
       let P : List ℕ → Type 0 = AreBytes in
       outcome_at rows _ _ _ whole
-          (opcode_outcome rows law ps prefixes (0xf00 + b) (length ps + 1) front b join (length_more ps 0x0f (length ps) refl) escape_read
-              (λ next. ap (λ x. reading_by rows x) (one_more ps 0x0f (b ∷ next)) ∙ walk rows ps (0x0f ∷ b ∷ next) prefixes
-                  ∙ prefixed_first rows (prefixes_of ps) (length ps) 0x0f (b ∷ next) escape_is_no_prefix ∙ first_pair rows (prefixes_of ps) (length ps) b next)
-              bytes (subst P (sym whole) are))
+      (opcode_outcome rows law ps prefixes (0xf00 + b) (length ps + 1) front b join (length_more ps 0x0f (length ps) refl) escape_read
+      (λ next. ap (λ x. reading_by rows x) (one_more ps 0x0f (b ∷ next)) ∙ walk rows ps (0x0f ∷ b ∷ next) prefixes
+      ∙ prefixed_first rows (prefixes_of ps) (length ps) 0x0f (b ∷ next) escape_is_no_prefix ∙ first_pair rows (prefixes_of ps) (length ps) b next)
+      bytes (subst P (sym whole) are))
 
   first_outcome : (b : ℕ) (bytes : List ℕ) → is_prefix b ≡ false → AreBytes (ps ++ b ∷ bytes) →
       Outcome rows (ps ++ b ∷ bytes) (first_reading rows (prefixes_of ps) b (length ps) bytes)
   unfolding first_reading
   first_outcome b bytes apart are =
       cond_both (b == 0x0f) (second_reading rows (prefixes_of ps) (length ps + 1) bytes) (opcode_reading rows (prefixes_of ps) b (length ps) bytes) (Outcome rows (ps ++ b ∷ bytes))
-          (λ t.
-              let same : b ≡ 0x0f = eqb-true b 0x0f t in
-              let P : List ℕ → Type 0 = AreBytes in
-              let e : ps ++ b ∷ bytes ≡ ps ++ 0x0f ∷ bytes = ap (λ x. ps ++ x ∷ bytes) same in
-              outcome_at rows _ _ _ (sym e) (second_outcome bytes (subst P e are)))
-          (λ t. byte_outcome b bytes apart t are)
+      (λ t.
+      let same : b ≡ 0x0f = eqb-true b 0x0f t in
+      let P : List ℕ → Type 0 = AreBytes in
+      let e : ps ++ b ∷ bytes ≡ ps ++ 0x0f ∷ bytes = ap (λ x. ps ++ x ∷ bytes) same in
+      outcome_at rows _ _ _ (sym e) (second_outcome bytes (subst P e are)))
+      (λ t. byte_outcome b bytes apart t are)
 
 -- bytes behind prefixes
 prefixed_outcome : (rows : List Row) → Lawful rows → (bytes ps : List ℕ) → All (λ p. is_prefix p ≡ true) ps → AreBytes (ps ++ bytes) →
@@ -81,15 +81,15 @@ unfolding prefixed_reading
 prefixed_outcome rows law [] ps prefixes are = outcome_at rows _ _ More (sym (append-nil ps)) (opens_prefixes rows law ps prefixes (front_bytes ps [] are))
 prefixed_outcome rows law (b ∷ bytes) ps prefixes are =
     cond_both (is_prefix b) (prefixed_reading rows (with_prefix (prefixes_of ps) b) (length ps + 1) bytes) (first_reading rows (prefixes_of ps) b (length ps) bytes) (Outcome rows (ps ++ b ∷ bytes))
-        (λ t.
-            let P : List ℕ → Type 0 = AreBytes in
-            let Q : Reading → Type 0 = Outcome rows (ps ++ b ∷ bytes) in
-            let same : prefixed_reading rows (prefixes_of (ps ++ b ∷ [])) (length (ps ++ b ∷ [])) bytes ≡ prefixed_reading rows (with_prefix (prefixes_of ps) b) (length ps + 1) bytes =
-                ap (λ s. prefixed_reading rows s (length (ps ++ b ∷ [])) bytes) (prefixes_of-push ps b)
-                ∙ ap (λ n. prefixed_reading rows (with_prefix (prefixes_of ps) b) n bytes) (sym (length_more ps b (length ps) refl)) in
-            subst Q same (outcome_at rows _ _ _ (one_more ps b bytes)
-                (prefixed_outcome rows law bytes (ps ++ b ∷ []) (All-push (λ p. is_prefix p ≡ true) ps b prefixes t) (subst P (sym (one_more ps b bytes)) are))))
-        (λ t. first_outcome rows law ps prefixes b bytes t are)
+    (λ t.
+    let P : List ℕ → Type 0 = AreBytes in
+    let Q : Reading → Type 0 = Outcome rows (ps ++ b ∷ bytes) in
+    let same : prefixed_reading rows (prefixes_of (ps ++ b ∷ [])) (length (ps ++ b ∷ [])) bytes ≡ prefixed_reading rows (with_prefix (prefixes_of ps) b) (length ps + 1) bytes =
+    ap (λ s. prefixed_reading rows s (length (ps ++ b ∷ [])) bytes) (prefixes_of-push ps b)
+    ∙ ap (λ n. prefixed_reading rows (with_prefix (prefixes_of ps) b) n bytes) (sym (length_more ps b (length ps) refl)) in
+    subst Q same (outcome_at rows _ _ _ (one_more ps b bytes)
+    (prefixed_outcome rows law bytes (ps ++ b ∷ []) (All-push (λ p. is_prefix p ≡ true) ps b prefixes t) (subst P (sym (one_more ps b bytes)) are))))
+    (λ t. first_outcome rows law ps prefixes b bytes t are)
 
 -- every string of bytes
 pub outcome : (rows : List Row) → Lawful rows → (bytes : List ℕ) → AreBytes bytes → Outcome rows bytes (reading_by rows bytes)

@@ -1,11 +1,10 @@
 -- What is read is spelled, what wants more begins a spelling, and what is refused begins none.
-use Rattle.std.specs.Prelude.{◌==◌, is_some, if◌then◌else◌, Contains, replicate}
-use Rattle.std.specs.List.{find, All}
-use Rattle.std.proofs.Common.{◌≡◌, ℕ, zero, suc, ◌+◌, ◌-◌, ◌*◌, ◌/◌, ◌%◌, ◌<◌, ◌≤◌, ◌≢◌, ◌⊎◌, inl, inr, List, [], ◌∷◌, ◌++◌, length, take, drop, refl, sym, ◌∙◌, ap, cond, Bool, true, false, ◌&&◌, ◌||◌, not, nat_le, nat_lt, Option, Some, None, arith, subst, length-append, length-take, append_assoc}
-use Rattle.std.proofs.lemmas.Bool.{cases_Bool, cond_both, and_parts, and_from, leb-true, le-leb, ltb-true, ltb-false, le-ltb, lt-ltb, eqb-true, eqb-false, both_ways, not-true, not_from_false}
+use Rattle.std.specs.Prelude.{◌==◌, replicate}
+use Rattle.std.specs.List.{All}
+use Rattle.std.proofs.Common.{◌≡◌, ℕ, ◌+◌, ◌-◌, ◌<◌, ◌≤◌, ◌≢◌, List, [], ◌∷◌, ◌++◌, length, take, drop, refl, sym, ◌∙◌, ap, cond, false, not, nat_lt, Some, None, arith, subst, length-append, append_assoc}
+use Rattle.std.proofs.lemmas.Bool.{cond_both, ltb-true, ltb-false, eqb-true, eqb-false}
 use Rattle.std.proofs.lemmas.List.{take-append-drop, append-nil, length-take-le, length-replicate, take_at, drop_at}
-use Rattle.std.proofs.lemmas.List.Elements.{All-append, All-take, All-drop, All-replicate, All-head, All-tail, All-cons, All-nil}
-use Rattle.m386_opmap.specs.declared.fields.Prefixes.{Prefixes}
+use Rattle.std.proofs.lemmas.List.Elements.{All-append, All-take, All-drop, All-replicate, All-cons}
 use Rattle.m386_opmap.specs.declared.fields.Fields.{Fields}
 use Rattle.m386_opmap.specs.declared.op.Addr.{Addr}
 use Rattle.m386_opmap.specs.declared.op.Arg.{Arg}
@@ -14,14 +13,10 @@ use Rattle.m386_opmap.specs.declared.op.Op.{Op}
 use Rattle.m386_opmap.specs.declared.outcome.Reading.{Reading}
 use Rattle.m386_opmap.specs.declared.outcome.Reading.TheVariants.{Spelled, More, Refused}
 use Rattle.m386_opmap.specs.declared.row.Row.{Row}
-use Rattle.m386_opmap.specs.Forms.{Form, absent, register, based, indexed, top, middle, low, displacement, displacement_length, base_of, index_of, scale_of}
-use Rattle.m386_opmap.specs.Operands.{has_modrm, suits, is_memory, wants_memory, wants_register, tail_length, operation}
-use Rattle.m386_opmap.specs.Prefix.{is_prefix, no_prefixes, prefixes_of}
-use Rattle.m386_opmap.specs.Readings.{tail_reading, displaced_reading, sib_reading, form_reading, selected_reading, modrm_reading, begun_reading, opcode_reading, second_reading, first_reading, prefixed_reading, reading_by, with_place}
-use Rattle.m386_opmap.specs.Rows.{row_at, row_of, covers, begins, Covers}
-use Rattle.m386_opmap.specs.Spelling.{SpelledBy, opcode_bytes}
-use Rattle.m386_opmap.proofs.Lawful.{Lawful, lawful_row, whole_row, begins_from, begins_like, begun}
-use Rattle.m386_opmap.proofs.Complete.{complete}
+use Rattle.m386_opmap.specs.Forms.{Form, register, based, indexed, top, middle, low, displacement, displacement_length, base_of, index_of, scale_of}
+use Rattle.m386_opmap.specs.Operands.{is_memory, tail_length, operation}
+use Rattle.m386_opmap.specs.Readings.{tail_reading, displaced_reading, sib_reading, form_reading, reading_by, with_place}
+use Rattle.m386_opmap.specs.Spelling.{SpelledBy}
 
 -- each is a byte
 abbrev pub AreBytes : List ℕ → Type 0
@@ -91,23 +86,23 @@ unfolding tail_reading
 tail_outcome rows c at r f e makes bytes h =
     let n : ℕ = tail_length r f.prefixes.narrow in
     cond_both (nat_lt (length bytes) n) More (Spelled (operation r f (take n bytes)) (at + n)) (Outcome rows (c ++ bytes))
-        (λ t.
-            let short : length bytes < n = ltb-true (length bytes) n t in
-            let fill : List ℕ = zeros (n - length bytes) in
-            let size : length (bytes ++ fill) ≡ n = simp (length-append, length-replicate) (omega arith) in
-            let join : (c ++ bytes) ++ fill ≡ c ++ (bytes ++ fill) = append_assoc c bytes fill in
-            let P : List ℕ → Type 0 = AreBytes in
-            record { op = operation r f (bytes ++ fill); rest = fill; spelled = respelled rows _ _ _ (sym join) (makes (bytes ++ fill) size (subst P join (with_zeros (c ++ bytes) (n - length bytes) h))) })
-        (λ t.
-            let long : n ≤ length bytes = ltb-false (length bytes) n t in
-            let size : length (take n bytes) ≡ n = length-take-le n bytes long in
-            let join : (c ++ take n bytes) ++ drop n bytes ≡ c ++ bytes = append_assoc c (take n bytes) (drop n bytes) ∙ ap (λ x. c ++ x) (take-append-drop n bytes) in
-            record { front = c ++ take n bytes; rest = drop n bytes; parts = sym join; size = simp (length-append) (omega (arith, e, size)); spelled = makes (take n bytes) size (front_bytes (c ++ take n bytes) (drop n bytes) (let P : List ℕ → Type 0 = AreBytes in subst P (sym join) h)) })
+    (λ t.
+    let short : length bytes < n = ltb-true (length bytes) n t in
+    let fill : List ℕ = zeros (n - length bytes) in
+    let size : length (bytes ++ fill) ≡ n = simp (length-append, length-replicate) (omega arith) in
+    let join : (c ++ bytes) ++ fill ≡ c ++ (bytes ++ fill) = append_assoc c bytes fill in
+    let P : List ℕ → Type 0 = AreBytes in
+    record { op = operation r f (bytes ++ fill); rest = fill; spelled = respelled rows _ _ _ (sym join) (makes (bytes ++ fill) size (subst P join (with_zeros (c ++ bytes) (n - length bytes) h))) })
+    (λ t.
+    let long : n ≤ length bytes = ltb-false (length bytes) n t in
+    let size : length (take n bytes) ≡ n = length-take-le n bytes long in
+    let join : (c ++ take n bytes) ++ drop n bytes ≡ c ++ bytes = append_assoc c (take n bytes) (drop n bytes) ∙ ap (λ x. c ++ x) (take-append-drop n bytes) in
+    record { front = c ++ take n bytes; rest = drop n bytes; parts = sym join; size = simp (length-append) (omega (arith, e, size)); spelled = makes (take n bytes) size (front_bytes (c ++ take n bytes) (drop n bytes) (let P : List ℕ → Type 0 = AreBytes in subst P (sym join) h)) })
 
 -- a displacement
 displaced_outcome : (rows : List Row) (c : List ℕ) (at : ℕ) (r : Row) (f : Fields) (address : Addr) (n : ℕ) → at ≡ length c →
     ((ds tail : List ℕ) → length ds ≡ n → length tail ≡ tail_length r f.prefixes.narrow → AreBytes (c ++ (ds ++ tail)) →
-        SpelledBy rows (operation r (with_place f (Mem (record address { disp = displacement ds }))) tail) (c ++ (ds ++ tail))) →
+    SpelledBy rows (operation r (with_place f (Mem (record address { disp = displacement ds }))) tail) (c ++ (ds ++ tail))) →
     (bytes : List ℕ) → AreBytes (c ++ bytes) → Outcome rows (c ++ bytes) (displaced_reading r f address n at bytes)
 unfolding displaced_reading
 displaced_outcome rows c at r f address n e makes bytes h =
@@ -115,22 +110,22 @@ displaced_outcome rows c at r f address n e makes bytes h =
     let P : List ℕ → Type 0 = AreBytes in
     let after : Fields = with_place f (Mem (record address { disp = displacement (take n bytes) })) in
     cond_both (nat_lt (length bytes) n) More (tail_reading r after (at + n) (drop n bytes)) (Outcome rows (c ++ bytes))
-        (λ t.
-            let short : length bytes < n = ltb-true (length bytes) n t in
-            let fill : List ℕ = zeros (n - length bytes) in
-            let size : length (bytes ++ fill) ≡ n = simp (length-append, length-replicate) (omega arith) in
-            let join : (c ++ bytes) ++ (fill ++ zeros k) ≡ c ++ ((bytes ++ fill) ++ zeros k) =
-                append_assoc c bytes (fill ++ zeros k) ∙ ap (λ x. c ++ x) (sym (append_assoc bytes fill (zeros k))) in
-            let are : AreBytes ((c ++ bytes) ++ (fill ++ zeros k)) = All-append (λ b. b < 256) (c ++ bytes) (fill ++ zeros k) h (with_zeros fill k (zeros_are_bytes (n - length bytes))) in
-            record { op = operation r (with_place f (Mem (record address { disp = displacement (bytes ++ fill) }))) (zeros k); rest = fill ++ zeros k; spelled = respelled rows _ _ _ (sym join) (makes (bytes ++ fill) (zeros k) size (length-replicate k 0) (subst P join are)) })
-        (λ t.
-            let long : n ≤ length bytes = ltb-false (length bytes) n t in
-            let size : length (take n bytes) ≡ n = length-take-le n bytes long in
-            let join : (c ++ take n bytes) ++ drop n bytes ≡ c ++ bytes = append_assoc c (take n bytes) (drop n bytes) ∙ ap (λ x. c ++ x) (take-append-drop n bytes) in
-            outcome_at rows _ _ _ join
-                (tail_outcome rows (c ++ take n bytes) (at + n) r after (simp length-append (omega (arith, e, size)))
-                    (λ tail l are. respelled rows _ _ _ (sym (append_assoc c (take n bytes) tail)) (makes (take n bytes) tail size l (subst P (append_assoc c (take n bytes) tail) are)))
-                    (drop n bytes) (subst P (sym join) h)))
+    (λ t.
+    let short : length bytes < n = ltb-true (length bytes) n t in
+    let fill : List ℕ = zeros (n - length bytes) in
+    let size : length (bytes ++ fill) ≡ n = simp (length-append, length-replicate) (omega arith) in
+    let join : (c ++ bytes) ++ (fill ++ zeros k) ≡ c ++ ((bytes ++ fill) ++ zeros k) =
+    append_assoc c bytes (fill ++ zeros k) ∙ ap (λ x. c ++ x) (sym (append_assoc bytes fill (zeros k))) in
+    let are : AreBytes ((c ++ bytes) ++ (fill ++ zeros k)) = All-append (λ b. b < 256) (c ++ bytes) (fill ++ zeros k) h (with_zeros fill k (zeros_are_bytes (n - length bytes))) in
+    record { op = operation r (with_place f (Mem (record address { disp = displacement (bytes ++ fill) }))) (zeros k); rest = fill ++ zeros k; spelled = respelled rows _ _ _ (sym join) (makes (bytes ++ fill) (zeros k) size (length-replicate k 0) (subst P join are)) })
+    (λ t.
+    let long : n ≤ length bytes = ltb-false (length bytes) n t in
+    let size : length (take n bytes) ≡ n = length-take-le n bytes long in
+    let join : (c ++ take n bytes) ++ drop n bytes ≡ c ++ bytes = append_assoc c (take n bytes) (drop n bytes) ∙ ap (λ x. c ++ x) (take-append-drop n bytes) in
+    outcome_at rows _ _ _ join
+    (tail_outcome rows (c ++ take n bytes) (at + n) r after (simp length-append (omega (arith, e, size)))
+    (λ tail l are. respelled rows _ _ _ (sym (append_assoc c (take n bytes) tail)) (makes (take n bytes) tail size l (subst P (append_assoc c (take n bytes) tail) are)))
+    (drop n bytes) (subst P (sym join) h)))
 
 -- a byte more behind some bytes
 pub one_more : (c : List ℕ) (b : ℕ) (bytes : List ℕ) → (c ++ b ∷ []) ++ bytes ≡ c ++ b ∷ bytes
@@ -146,7 +141,7 @@ sib_address f mode s = record { seg = f.prefixes.seg; base = base_of mode (low s
 -- a SIB byte
 sib_outcome : (rows : List Row) (c : List ℕ) (at : ℕ) (r : Row) (f : Fields) (mode : ℕ) → at ≡ length c →
     ((s : ℕ) (ds tail : List ℕ) → length ds ≡ displacement_length mode (low s) → length tail ≡ tail_length r f.prefixes.narrow → AreBytes (c ++ (s ∷ ds ++ tail)) →
-        SpelledBy rows (operation r (with_place f (Mem (record (sib_address f mode s) { disp = displacement ds }))) tail) (c ++ (s ∷ ds ++ tail))) →
+    SpelledBy rows (operation r (with_place f (Mem (record (sib_address f mode s) { disp = displacement ds }))) tail) (c ++ (s ∷ ds ++ tail))) →
     (bytes : List ℕ) → AreBytes (c ++ bytes) → Outcome rows (c ++ bytes) (sib_reading r f mode at bytes)
 unfolding sib_reading
 sib_outcome rows c at r f mode e makes [] h =
@@ -160,9 +155,9 @@ sib_outcome rows c at r f mode e makes [] h =
 sib_outcome rows c at r f mode e makes (s ∷ bytes) h =
     let P : List ℕ → Type 0 = AreBytes in
     outcome_at rows _ _ _ (one_more c s bytes)
-        (displaced_outcome rows (c ++ s ∷ []) (at + 1) r f (sib_address f mode s) (displacement_length mode (low s)) (length_more c s at e)
-            (λ ds tail n l are. respelled rows _ _ _ (sym (one_more c s (ds ++ tail))) (makes s ds tail n l (subst P (one_more c s (ds ++ tail)) are)))
-            bytes (subst P (sym (one_more c s bytes)) h))
+    (displaced_outcome rows (c ++ s ∷ []) (at + 1) r f (sib_address f mode s) (displacement_length mode (low s)) (length_more c s at e)
+    (λ ds tail n l are. respelled rows _ _ _ (sym (one_more c s (ds ++ tail))) (makes s ds tail n l (subst P (one_more c s (ds ++ tail)) are)))
+    bytes (subst P (sym (one_more c s bytes)) h))
 
 ne_from_test : (a b : ℕ) → (a == b) ≡ false → a ≢ b
 ne_from_test a b h e = eqb-false a b h e
@@ -170,18 +165,18 @@ ne_from_test a b h e = eqb-false a b h e
 -- what the ModRM byte names
 pub form_outcome : (rows : List Row) (c : List ℕ) (at : ℕ) (r : Row) (f : Fields) (m : ℕ) → at ≡ length c →
     ((ms : List ℕ) (place : Arg) (tail : List ℕ) → Form f.prefixes.seg (m ∷ ms) (middle m) (Some place) → is_memory (Some place) ≡ not (top m == 3) →
-        length tail ≡ tail_length r f.prefixes.narrow → AreBytes (c ++ (ms ++ tail)) →
-        SpelledBy rows (operation r (with_place f place) tail) (c ++ (ms ++ tail))) →
+    length tail ≡ tail_length r f.prefixes.narrow → AreBytes (c ++ (ms ++ tail)) →
+    SpelledBy rows (operation r (with_place f place) tail) (c ++ (ms ++ tail))) →
     (bytes : List ℕ) → AreBytes (c ++ bytes) → Outcome rows (c ++ bytes) (form_reading r f m at bytes)
 unfolding form_reading
 form_outcome rows c at r f m e makes bytes h =
     let address : Addr = record { seg = f.prefixes.seg; base = base_of (top m) (low m); index = None; scale = 1; disp = 0 } in
     let d : ℕ = displacement_length (top m) (low m) in
     cond_both (top m == 3) (tail_reading r (with_place f (Reg (low m))) at bytes) (cond (low m == 4) (sib_reading r f (top m) at bytes) (displaced_reading r f address d at bytes)) (Outcome rows (c ++ bytes))
-        (λ t. tail_outcome rows c at r (with_place f (Reg (low m))) e
-            (λ tail l are. makes [] (Reg (low m)) tail (register m (eqb-true (top m) 3 t)) (rw t refl) l are) bytes h)
-        (λ t. cond_both (low m == 4) (sib_reading r f (top m) at bytes) (displaced_reading r f address d at bytes) (Outcome rows (c ++ bytes))
-            (λ u. sib_outcome rows c at r f (top m) e
-                (λ s ds tail n l are. makes (s ∷ ds) (Mem (record (sib_address f (top m) s) { disp = displacement ds })) tail (indexed m s ds (ne_from_test (top m) 3 t) (eqb-true (low m) 4 u) n) (rw t refl) l are) bytes h)
-            (λ u. displaced_outcome rows c at r f address d e
-                (λ ds tail n l are. makes ds (Mem (record address { disp = displacement ds })) tail (based m ds (ne_from_test (top m) 3 t) (ne_from_test (low m) 4 u) n) (rw t refl) l are) bytes h))
+    (λ t. tail_outcome rows c at r (with_place f (Reg (low m))) e
+    (λ tail l are. makes [] (Reg (low m)) tail (register m (eqb-true (top m) 3 t)) (rw t refl) l are) bytes h)
+    (λ t. cond_both (low m == 4) (sib_reading r f (top m) at bytes) (displaced_reading r f address d at bytes) (Outcome rows (c ++ bytes))
+    (λ u. sib_outcome rows c at r f (top m) e
+    (λ s ds tail n l are. makes (s ∷ ds) (Mem (record (sib_address f (top m) s) { disp = displacement ds })) tail (indexed m s ds (ne_from_test (top m) 3 t) (eqb-true (low m) 4 u) n) (rw t refl) l are) bytes h)
+    (λ u. displaced_outcome rows c at r f address d e
+    (λ ds tail n l are. makes ds (Mem (record address { disp = displacement ds })) tail (based m ds (ne_from_test (top m) 3 t) (ne_from_test (low m) 4 u) n) (rw t refl) l are) bytes h))

@@ -1,10 +1,10 @@
 -- What a table whose rows rise has: no two rows for one key, and a search finds the row of a key.
-use Rattle.std.proofs.Common.{◌≡◌, ℕ, zero, suc, ◌+◌, ◌*◌, ◌<◌, ◌≤◌, ◌⊎◌, inl, inr, List, [], ◌∷◌, length, refl, sym, ◌∙◌, cond, Bool, true, false, ◌&&◌, ◌||◌, not, nat_le, Option, Some, None, arith, subst}
-use Rattle.std.specs.List.{find, Contains, list_all, list_any}
+use Rattle.std.proofs.Common.{◌≡◌, ℕ, zero, suc, ◌+◌, ◌≤◌, ◌⊎◌, inl, inr, List, [], ◌∷◌, refl, sym, ◌∙◌, cond, Bool, true, false, ◌&&◌, nat_le, Some, arith, subst}
+use Rattle.std.specs.List.{find, Contains}
 use Rattle.std.proofs.lemmas.Bool.{and_parts, leb-true}
 use Rattle.m386_opmap.specs.declared.row.Row.{Row}
 use Rattle.m386_opmap.specs.Opcodes.{opcode_rows}
-use Rattle.m386_opmap.specs.Rows.{row_at, row_of, covers, begins, Covers, rising, rising_from}
+use Rattle.m386_opmap.specs.Rows.{Covers, rising_from}
 
 -- an element is the first or one of the others
 pub contains_cases : {X : Type 0} (x : X) (xs : List X) (y : X) → Contains (x ∷ xs) y → (x ≡ y) ⊎ Contains xs y
@@ -36,17 +36,17 @@ one_covers least (t ∷ rows) r s key h c d f g =
     let p = and_parts (nat_le least t.low && nat_le t.low t.high) (rising_from (t.high + 1) rows) h in
     elim (contains_cases t rows r c) [
       | inl e ↦ elim (contains_cases t rows s d) [
-          | inl i ↦ sym e ∙ i
-          | inr i ↦ (let b = rising_bounds (t.high + 1) rows s p.1 i in
-                     let P : Row → Type 0 = λ x. Covers x key in
-                     let k = subst P (sym e) f in absurd (omega (arith, b.0, k.1, g.0)))
-        ]
+        | inl i ↦ sym e ∙ i
+        | inr i ↦ (let b = rising_bounds (t.high + 1) rows s p.1 i in
+            let P : Row → Type 0 = λ x. Covers x key in
+            let k = subst P (sym e) f in absurd (omega (arith, b.0, k.1, g.0)))
+      ]
       | inr e ↦ elim (contains_cases t rows s d) [
-          | inl i ↦ (let b = rising_bounds (t.high + 1) rows r p.1 e in
-                     let P : Row → Type 0 = λ x. Covers x key in
-                     let k = subst P (sym i) g in absurd (omega (arith, b.0, k.1, f.0)))
-          | inr i ↦ one_covers (t.high + 1) rows r s key p.1 e i f g
-        ]
+        | inl i ↦ (let b = rising_bounds (t.high + 1) rows r p.1 e in
+            let P : Row → Type 0 = λ x. Covers x key in
+            let k = subst P (sym i) g in absurd (omega (arith, b.0, k.1, f.0)))
+        | inr i ↦ one_covers (t.high + 1) rows r s key p.1 e i f g
+      ]
     ]
 
 -- no two rows of the opcodes cover one key

@@ -1,8 +1,7 @@
 -- The ModRM byte with its SIB byte and displacement, and the numbers in an instruction.
-use Rattle.std.specs.Prelude.{ℕ, ◌+◌, ◌-◌, ◌*◌, ◌/◌, ◌%◌, ◌^◌, ◌==◌, ◌≡◌, ◌≢◌, nat_lt, Bool, ◌&&◌, List, [], ◌∷◌, length, Option, Some, None, if◌then◌else◌}
+use Rattle.std.specs.Prelude.{ℕ, ◌+◌, ◌-◌, ◌*◌, ◌/◌, ◌%◌, ◌^◌, ◌==◌, ◌≡◌, ◌≢◌, nat_lt, ◌&&◌, List, [], ◌∷◌, length, Option, Some, None, if◌then◌else◌}
 use Rattle.m386_base.specs.declared.number.Width.{Width}
 use Rattle.m386_base.specs.declared.number.Width.TheVariants.{W8, W16, W32}
-use Rattle.m386_opmap.specs.declared.op.Addr.{Addr}
 use Rattle.m386_opmap.specs.declared.op.Arg.{Arg}
 use Rattle.m386_opmap.specs.declared.op.Arg.TheVariants.{Reg, Mem}
 
@@ -65,14 +64,11 @@ scale_of s = if middle s == 4 then 1 else 2 ^ top s
 pub data Form (seg : Option ℕ) : List ℕ → ℕ → Option Arg → Type 0 where
   -- no ModRM byte
   absent : Form seg [] 0 None
-
   -- mod 3: the register of r/m
   register : (m : ℕ) → top m ≡ 3 → Form seg (m ∷ []) (middle m) (Some (Reg (low m)))
-
   -- another mod, and no SIB byte: r/m is the base
   based : (m : ℕ) (ds : List ℕ) → top m ≢ 3 → low m ≢ 4 → length ds ≡ displacement_length (top m) (low m) →
       Form seg (m ∷ ds) (middle m) (Some (Mem (record { seg = seg; base = base_of (top m) (low m); index = None; scale = 1; disp = displacement ds })))
-
   -- another mod, and r/m 4: a SIB byte with scale, index and base
   indexed : (m s : ℕ) (ds : List ℕ) → top m ≢ 3 → low m ≡ 4 → length ds ≡ displacement_length (top m) (low s) →
       Form seg (m ∷ s ∷ ds) (middle m) (Some (Mem (record { seg = seg; base = base_of (top m) (low s); index = index_of s; scale = scale_of s; disp = displacement ds })))

@@ -25,9 +25,15 @@ place i operands = slice_index_or operands i Absent
 abbrev pub keys : ℕ → ℕ → Name → Size → List Operand → Bool → Row
 keys low high name size operands lock =
     record {
-        low = low; high = high; name = name; size = size;
-        first = place 0 operands; second = place 1 operands; third = place 2 operands;
-        lock = lock; newer = false
+      low = low;
+      high = high;
+      name = name;
+      size = size;
+      first = place 0 operands;
+      second = place 1 operands;
+      third = place 2 operands;
+      lock = lock;
+      newer = false;
     }
 
 -- the rows of the opcodes from one to another

@@ -1,5 +1,5 @@
 -- What each operand of a row is, in the bytes and in the operation.
-use Rattle.std.specs.Prelude.{ℕ, ◌+◌, ◌*◌, ◌%◌, ◌==◌, Bool, true, false, ◌&&◌, ◌||◌, not, List, [], ◌∷◌, ◌++◌, take, drop, Option, Some, None, option_to_list, if◌then◌else◌}
+use Rattle.std.specs.Prelude.{ℕ, ◌+◌, ◌%◌, Bool, true, false, ◌&&◌, ◌||◌, not, List, ◌++◌, take, drop, Option, Some, None, option_to_list, if◌then◌else◌}
 use Rattle.m386_base.specs.declared.number.Width.{Width}
 use Rattle.m386_base.specs.declared.number.Width.TheVariants.{W8, W16, W32}
 use Rattle.m386_opmap.specs.declared.name.Name.{Name}
@@ -8,7 +8,6 @@ use Rattle.m386_opmap.specs.declared.op.Arg.{Arg}
 use Rattle.m386_opmap.specs.declared.op.Arg.TheVariants.{Reg, Seg, Imm, Mem, Rel, Far}
 use Rattle.m386_opmap.specs.declared.op.Arg.TheVariants as args
 use Rattle.m386_opmap.specs.declared.op.Op.{Op}
-use Rattle.m386_opmap.specs.declared.op.Rep.{Rep}
 use Rattle.m386_opmap.specs.declared.op.Rep.TheVariants.{Once}
 use Rattle.m386_opmap.specs.declared.row.Operand.{Operand}
 use Rattle.m386_opmap.specs.declared.row.Operand.TheVariants.{Absent, E, M, R, G, S, Low, I, Ib, Iw, SignedByte, Jb, J, O, A, X, Table, Eax, Cl, Dx, One, Es, Cs, Ss, Ds, Fs, Gs, Cr0}
@@ -136,9 +135,9 @@ operation r f tail =
     let w = width_of r.size f.prefixes.narrow in
     let value = operand_value f w tail in
     record {
-        name = r.name;
-        width = w;
-        args = record { items = option_to_list (value r.first) ++ option_to_list (value r.second) ++ option_to_list (value r.third) };
-        lock = f.prefixes.lock;
-        rep = if is_string r.name then f.prefixes.rep else Once
+      name = r.name;
+      width = w;
+      args = record { items = option_to_list (value r.first) ++ option_to_list (value r.second) ++ option_to_list (value r.third) };
+      lock = f.prefixes.lock;
+      rep = if is_string r.name then f.prefixes.rep else Once;
     }

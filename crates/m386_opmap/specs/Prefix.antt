@@ -1,5 +1,5 @@
 -- The bytes that may stand before an opcode, and what they say.
-use Rattle.std.specs.Prelude.{ℕ, ◌==◌, Bool, true, false, ◌||◌, List, [], ◌∷◌, Option, Some, None, unwrap_or, if◌then◌else◌}
+use Rattle.std.specs.Prelude.{ℕ, ◌==◌, Bool, false, ◌||◌, List, [], ◌∷◌, Option, Some, None, unwrap_or, if◌then◌else◌}
 use Rattle.std.specs.List.{list_any}
 use Rattle.m386_opmap.specs.declared.op.Rep.{Rep}
 use Rattle.m386_opmap.specs.declared.op.Rep.TheVariants.{Once, Equal, NotEqual}
@@ -39,10 +39,10 @@ last_of named (b ∷ bs) = later (named b) (last_of named bs)
 unfoldable pub prefixes_of : List ℕ → Prefixes
 prefixes_of bs =
     record {
-        seg = last_of segment_named bs;
-        narrow = list_any (λ b. b == 0x66) bs;
-        lock = list_any (λ b. b == 0xf0) bs;
-        rep = unwrap_or (last_of rep_named bs) Once
+      seg = last_of segment_named bs;
+      narrow = list_any (λ b. b == 0x66) bs;
+      lock = list_any (λ b. b == 0xf0) bs;
+      rep = unwrap_or (last_of rep_named bs) Once;
     }
 
 -- what prefixes say before the first
@@ -53,8 +53,8 @@ no_prefixes = record { seg = None; narrow = false; lock = false; rep = Once }
 unfoldable pub with_prefix : Prefixes → ℕ → Prefixes
 with_prefix said b =
     record {
-        seg = later said.seg (segment_named b);
-        narrow = said.narrow || (b == 0x66);
-        lock = said.lock || (b == 0xf0);
-        rep = unwrap_or (rep_named b) said.rep
+      seg = later said.seg (segment_named b);
+      narrow = said.narrow || (b == 0x66);
+      lock = said.lock || (b == 0xf0);
+      rep = unwrap_or (rep_named b) said.rep;
     }

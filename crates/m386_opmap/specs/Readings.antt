@@ -1,5 +1,5 @@
 -- What a string of bytes reads as: an operation and its length, a begin of one, or refused at a byte.
-use Rattle.std.specs.Prelude.{ℕ, ◌+◌, ◌*◌, ◌==◌, nat_lt, Bool, not, List, [], ◌∷◌, length, take, drop, Option, Some, None, if◌then◌else◌}
+use Rattle.std.specs.Prelude.{ℕ, ◌+◌, ◌*◌, ◌==◌, nat_lt, not, List, [], ◌∷◌, length, take, drop, Option, Some, None, if◌then◌else◌}
 use Rattle.m386_opmap.specs.declared.fields.Prefixes.{Prefixes}
 use Rattle.m386_opmap.specs.declared.fields.Fields.{Fields}
 use Rattle.m386_opmap.specs.declared.op.Addr.{Addr}
@@ -9,6 +9,7 @@ use Rattle.m386_opmap.specs.declared.outcome.Reading.{Reading}
 use Rattle.m386_opmap.specs.declared.outcome.Reading.TheVariants.{Spelled, More, Refused}
 use Rattle.m386_opmap.specs.declared.row.Row.{Row}
 use Rattle.m386_opmap.specs.Forms.{top, middle, low, displacement, displacement_length, base_of, index_of, scale_of}
+use Rattle.m386_opmap.specs.Opcodes.{opcode_rows}
 use Rattle.m386_opmap.specs.Operands.{has_modrm, suits, tail_length, operation}
 use Rattle.m386_opmap.specs.Prefix.{is_prefix, no_prefixes, with_prefix}
 use Rattle.m386_opmap.specs.Rows.{row_at, row_of}
@@ -34,8 +35,8 @@ unfoldable pub sib_reading : Row → Fields → ℕ → ℕ → List ℕ → Rea
 sib_reading r f mode at [] = More
 sib_reading r f mode at (s ∷ bytes) =
     displaced_reading r f
-        (record { seg = f.prefixes.seg; base = base_of mode (low s); index = index_of s; scale = scale_of s; disp = 0 })
-        (displacement_length mode (low s)) (at + 1) bytes
+    (record { seg = f.prefixes.seg; base = base_of mode (low s); index = index_of s; scale = scale_of s; disp = 0 })
+    (displacement_length mode (low s)) (at + 1) bytes
 
 -- what the ModRM byte names
 unfoldable pub form_reading : Row → Fields → ℕ → ℕ → List ℕ → Reading
@@ -43,8 +44,8 @@ form_reading r f m at bytes =
     if top m == 3 then tail_reading r (with_place f (Reg (low m))) at bytes
     else if low m == 4 then sib_reading r f (top m) at bytes
     else displaced_reading r f
-        (record { seg = f.prefixes.seg; base = base_of (top m) (low m); index = None; scale = 1; disp = 0 })
-        (displacement_length (top m) (low m)) at bytes
+    (record { seg = f.prefixes.seg; base = base_of (top m) (low m); index = None; scale = 1; disp = 0 })
+    (displacement_length (top m) (low m)) at bytes
 
 -- the row that a ModRM byte selects
 abbrev pub selected_reading : Option Row → Fields → ℕ → ℕ → List ℕ → Reading
@@ -57,7 +58,7 @@ unfoldable pub modrm_reading : List Row → Prefixes → ℕ → ℕ → List �
 modrm_reading rows said opcode at [] = More
 modrm_reading rows said opcode at (m ∷ bytes) =
     selected_reading (row_at (8 * opcode + middle m) rows)
-        (record { prefixes = said; opcode = opcode; middle = middle m; place = None }) m at bytes
+    (record { prefixes = said; opcode = opcode; middle = middle m; place = None }) m at bytes
 
 -- what stands behind the opcode of a row
 abbrev pub begun_reading : Option Row → List Row → Prefixes → ℕ → ℕ → List ℕ → Reading
@@ -91,3 +92,8 @@ prefixed_reading rows said at (b ∷ bytes) =
 -- Own choice: docs/DECISIONS.md, "Where bytes are refused"
 unfoldable pub reading_by : List Row → List ℕ → Reading
 reading_by rows bytes = prefixed_reading rows no_prefixes 0 bytes
+
+-- What bytes read as by the opcodes of the machine.
+-- Own choice: docs/DECISIONS.md, "Where bytes are refused"
+unfoldable pub reading_of : List ℕ → Reading
+reading_of bytes = reading_by opcode_rows bytes

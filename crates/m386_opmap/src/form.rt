@@ -40,9 +40,5 @@ pub fn index(sib: u8) -> Option<u8>
 pub fn scale(sib: u8) -> u8
     ensures { result ≡ scale_of sib }
 {
-    if sib / 8 % 8 == 4 {
-        1
-    } else {
-        1 << (sib / 64)
-    }
+    if sib / 8 % 8 == 4 { 1 } else { 1 << (sib / 64) }
 }

@@ -1,18 +1,19 @@
 //! What a string of bytes reads as.
-ghost use Rattle.std.specs.Prelude.{◌≡◌, ◌+◌, ◌*◌, ◌<◌, ◌≤◌, ◌^◌, length};
+ghost use Rattle.std.specs.Prelude.{◌≡◌, ℕ, ◌+◌, ◌*◌, ◌<◌, ◌≤◌, ◌^◌, List, [], ◌++◌, length};
+ghost use Rattle.m386_opmap.specs.declared.op.Op.{Op};
 ghost use Rattle.m386_opmap.specs.Opcodes.{opcode_rows};
 ghost use Rattle.m386_opmap.specs.Rows.{row_at, row_of};
 ghost use Rattle.m386_opmap.specs.Forms.{displacement};
 ghost use Rattle.m386_opmap.specs.Prefix.{is_prefix, with_prefix, no_prefixes};
-ghost use Rattle.m386_opmap.specs.Readings.{tail_reading, displaced_reading, sib_reading, form_reading, modrm_reading, opcode_reading, second_reading, first_reading, prefixed_reading, reading_by};
+ghost use Rattle.m386_opmap.specs.Readings.{tail_reading, displaced_reading, sib_reading, form_reading, modrm_reading, opcode_reading, second_reading, first_reading, prefixed_reading, reading_by, reading_of};
+ghost use Rattle.m386_opmap.specs.Spelling.{Spells, IsReadingOf};
 
 use crate::fields::{Fields, Prefixes};
-use crate::form;
 use crate::op::{Addr, Arg};
-use crate::operand;
 use crate::outcome::Reading;
 use crate::row::Row;
 use crate::rows::ROWS;
+use crate::{form, operand};
 
 /// The row of a table that covers a key.
 #[tactic(auto, using(crate::proofs::Find::row_at_steps))]
@@ -59,7 +60,14 @@ fn read_tail(row: &Row, fields: &Fields, at: usize, rest: &[u8]) -> Reading
 
 /// Reads a displacement of so many bytes, of which the first stands at this place.
 #[tactic(auto, unfolding(crate::specs::Readings::displaced_reading))]
-fn read_displacement(row: &Row, fields: &Fields, address: Addr, len: usize, at: usize, rest: &[u8]) -> Reading
+fn read_displacement(
+    row: &Row,
+    fields: &Fields,
+    address: Addr,
+    len: usize,
+    at: usize,
+    rest: &[u8],
+) -> Reading
     requires few { len ≤ 4 }
     requires room { at + length rest.now < 2 ^ 64 }
     ensures { result ≡ displaced_reading row.now fields.now address len at rest.now }
@@ -208,3 +216,35 @@ fn read(rows: &[Row], bytes: &[u8]) -> Reading
     }
     Reading::More
 }
+
+/// What bytes read as by the opcodes of the machine.
+fn read_opcodes(bytes: &[u8]) -> Reading
+    ensures { result ≡ reading_of bytes.now }
+{
+    read(&ROWS, bytes)
+}
+
+/// What bytes read as: the operation that they begin with and the number of its bytes; `More` where they begin a spelling
+/// and have none yet; or `Refused` at the first byte after which no spelling begins so (PRM 17.2). Bytes may stand behind
+/// a spelling. It takes no memory.
+pub fn reading(bytes: &[u8]) -> Reading
+    ensures exact { result ≡ reading_of bytes.now }
+
+    // What the answer says is so.
+    ensures says { IsReadingOf bytes.now result }
+
+    // What is spelled is read, whatever follows.
+    ensures spelled { (op : Op) (front rest : List ℕ) → bytes.now ≡ front ++ rest → Spells op front → result ≡ Reading.Spelled op (length front) }
+{
+    read_opcodes(bytes)
+}
+
+/// No bytes spell two operations.
+pub fn one_operation()
+    ensures { (op other : Op) (bytes : List ℕ) → Spells op bytes → Spells other bytes → op ≡ other }
+{}
+
+/// No spelling is a proper front of another.
+pub fn no_longer_spelling()
+    ensures { (op other : Op) (bytes rest : List ℕ) → Spells op bytes → Spells other (bytes ++ rest) → rest ≡ [] }
+{}

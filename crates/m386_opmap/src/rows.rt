@@ -408,17 +408,14 @@ pub const ROWS: [Row; 327] = rows![
 /// The table is the one that the manual's opcode map gives.
 pub fn rows_are_the_opcodes()
     ensures { ROWS ≡ opcode_rows }
-{
-}
+{}
 
 /// The rows rise, and each ends below the begin of the next.
 pub fn rows_rise()
     ensures { rising opcode_rows ≡ true }
-{
-}
+{}
 
 /// No two rows cover one key.
 pub fn one_row_for_a_key()
     ensures { (r s : Row) (key : ℕ) → Contains opcode_rows r → Contains opcode_rows s → Covers r key → Covers s key → r ≡ s }
-{
-}
+{}

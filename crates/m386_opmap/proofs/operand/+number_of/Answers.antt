@@ -1,5 +1,5 @@
 -- The number of at most four bytes fits 32 bits.
-use Rattle.std.proofs.Common.{ℕ, ◌*◌, ◌^◌, ◌-◌, ◌<◌, ◌≤◌, List, length, take, drop, arith, length-take, length-drop}
+use Rattle.std.proofs.Common.{ℕ, ◌-◌, ◌<◌, ◌≤◌, List, length, take, drop, arith, length-take, length-drop}
 use Rattle.m386_opmap.proofs.Numbers.{three_bytes}
 use Rattle.m386_opmap.proofs.operand.+number_of.Goals as goal
 use Rattle.m386_opmap.proofs.operand.+number_of.Goals.{After-number_of}

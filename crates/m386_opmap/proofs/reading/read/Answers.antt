@@ -1,5 +1,5 @@
 -- A byte that is no prefix begins the opcode.
-use Rattle.std.proofs.Common.{◌∙◌, sym}
+use Rattle.std.proofs.Common.{◌∙◌}
 use Rattle.m386_opmap.proofs.Find.{prefixed_stop}
 use Rattle.m386_opmap.proofs.reading.read.Goals as goal
 
