@@ -248,3 +248,6 @@ pub fn one_operation()
 pub fn no_longer_spelling()
     ensures { (op other : Op) (bytes rest : List ℕ) → Spells op bytes → Spells other (bytes ++ rest) → rest ≡ [] }
 {}
+
+#[cfg(test)]
+mod tests;
