@@ -1,3 +1,4 @@
+pub mod Access
 pub mod Bounds
 pub mod Descriptors
 pub mod Finite

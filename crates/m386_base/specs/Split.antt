@@ -1,6 +1,6 @@
 -- The aligned groups of an access.
-use Rattle.std.specs.Prelude.{ℕ, ◌+◌, ◌-◌, ◌*◌, ◌%◌, ◌^◌, List, [], ◌∷◌, ◌/◌, ◌<◌, ◌≡◌, if◌then◌else◌, nat_le, ◌==◌, bit_and}
-use Rattle.std.specs.List.{AllByRecursion}
+use Rattle.std.specs.Prelude.{ℕ, ◌+◌, ◌-◌, ◌*◌, ◌%◌, ◌^◌, List, [], ◌∷◌, ◌++◌, ◌/◌, ◌<◌, ◌≡◌, ◌⊎◌, if◌then◌else◌, nat_le, ◌==◌, eqb, map, bit_and}
+use Rattle.std.specs.List.{AllByRecursion, IsDistinct, flat_map, range_with_len}
 use Rattle.m386_base.specs.declared.ask.Space.{Space}
 use Rattle.m386_base.specs.declared.ask.Space.TheVariants.{Memory, Port}
 use Rattle.m386_base.specs.declared.split.Piece.{Piece}
@@ -40,6 +40,10 @@ pub record IsGroup (space : Space) (p : Piece) : Type 0 where
 abbrev pub AreGroups : Space → List Piece → Type 0
 AreGroups space ps = AllByRecursion (IsGroup space) ps
 
+-- the lengths of an access
+abbrev pub IsLength : ℕ → Type 0
+IsLength len = (len ≡ 1) ⊎ (len ≡ 2) ⊎ (len ≡ 4)
+
 -- the place in the group of its first enabled byte
 abbrev pub lowest : ℕ → ℕ
 lowest enables =
@@ -54,3 +58,28 @@ unfoldable pub gather_of : Piece → ℕ → ℕ
 gather_of p value =
     let bytes = bit_and value (mask p.enables) in
     if p.place == 0 then bytes / 2 ^ (8 * lowest p.enables) else bytes * 2 ^ (8 * p.place) % 2 ^ 32
+
+-- The bytes of an access, rising: each one's place in the access, and its place in the space.
+-- Source: Intel 80386 PRM 2.1
+unfoldable pub access_bytes : Space → ℕ → ℕ → List (ℕ × ℕ)
+access_bytes space addr len = map (λ k. (k, wrapped space (addr + k))) (range_with_len 0 len)
+
+-- byte l of a group, where it belongs to the access: its place in the access, and its place in the group
+abbrev pub lane : Piece → ℕ → List (ℕ × ℕ)
+lane p l = if bit_and p.enables (2 ^ l) == 0 then [] else (p.place + l - lowest p.enables, l) ∷ []
+
+-- the bytes of a group that belong to the access, rising: each one's place in the access, and its place in the group
+unfoldable pub lanes : Piece → List (ℕ × ℕ)
+lanes p = lane p 0 ++ lane p 1 ++ lane p 2 ++ lane p 3
+
+-- the same bytes, each with its place in the space
+abbrev pub piece_bytes : Piece → List (ℕ × ℕ)
+piece_bytes p = map (λ b. (b.0, p.addr + b.1)) (lanes p)
+
+-- These are the groups of the access: no group stands twice, and each byte of the access stands in just one of them, at
+-- its own place, the first byte in the first group.
+-- Source: Intel 80386 PRM 2.1; the form of a group: docs/DECISIONS.md, "The form of a bus cycle"
+pub record IsAccess (space : Space) (addr len : ℕ) (ps : List Piece) : Type 0 where
+  pub groups : AreGroups space ps
+  pub apart : IsDistinct eqb (map (λ (p : Piece). p.addr) ps)
+  pub bytes : flat_map piece_bytes ps ≡ access_bytes space addr len

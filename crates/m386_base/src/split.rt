@@ -1,7 +1,7 @@
 //! The aligned groups of an access, and the bytes of an access in and out of a group.
 ghost use Rattle.std.specs.Prelude.{◌≡◌, ℕ, ◌+◌, ◌-◌, ◌*◌, ◌<◌, ◌≤◌, ◌^◌, ◌⊎◌};
 ghost use Rattle.m386_base.specs.Bus.{mask, IsEnabled};
-ghost use Rattle.m386_base.specs.Split.{pieces, wrapped, ones_at, lowest, spread_of, gather_of, AreGroups};
+ghost use Rattle.m386_base.specs.Split.{pieces, wrapped, ones_at, lowest, spread_of, gather_of, AreGroups, IsAccess};
 
 use crate::ask::Space;
 use arrayvec::ArrayVec;
@@ -54,6 +54,7 @@ pub fn split(space: Space, addr: u32, len: u8) -> ArrayVec<Piece, 2>
     requires { (len ≡ 1) ⊎ (len ≡ 2) ⊎ (len ≡ 4) }
     ensures pieces { result.items ≡ pieces space addr len }
     ensures groups { AreGroups space result.items }
+    ensures access { IsAccess space addr len result.items }
 {
     pieces_of(space, addr, len)
 }
