@@ -3,6 +3,7 @@ pub mod Bounds
 pub mod Descriptors
 pub mod Finite
 pub mod Groups
+pub mod Growth
 pub mod Masks
 pub mod Phrases
 pub mod Probing

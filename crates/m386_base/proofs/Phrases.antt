@@ -93,7 +93,8 @@ agree-same false = refl
 eqb-same : (n : ℕ) → eqb n n ≡ true
 eqb-same n = eq-eqb n n refl
 
-matches-cycle_of : (q : Ask) (v : ℕ) → IsEnabled q.enables v → matches q (cycle_of q v) ≡ true
+-- the cycle that is made of an ask matches it
+pub matches-cycle_of : (q : Ask) (v : ℕ) → IsEnabled q.enables v → matches q (cycle_of q v) ≡ true
 unfolding matches cycle_of
 matches-cycle_of q v e = go q.write refl
   where

@@ -1,5 +1,7 @@
 -- What a contract sees of a bus, and what one cycle does to it.
 use Rattle.std.specs.Prelude.{◌≡◌, ℕ, ◌+◌, ◌%◌, ◌<◌, ◌≤◌, ◌^◌, Bool, true, false, Option, Some, None, List, [], ◌∷◌, ◌++◌, Result, Ok, Err, if◌then◌else◌, ◌⊎◌, bit_and, ◌==◌, ◌-◌}
+use Rattle.std.specs.Coded.{Unit-prop, le_prop}
+use denote.Struct.Props.{props}
 use Rattle.m386_base.specs.declared.ask.Ask.{Ask}
 use Rattle.m386_base.specs.declared.fault.Stop.{Stop}
 use Rattle.m386_base.specs.declared.fault.Stop.TheVariants as stops
@@ -42,6 +44,13 @@ pub record IsAsk (a : Ask) : Type 0 where
   pub group : a.enables < 16
   pub part : a.part < 100
   pub value : IsEnabled a.enables a.value
+
+pub IsInSpace-prop : (space : Space) (addr : ℕ) → IsProp (IsInSpace space addr)
+IsInSpace-prop spaces.Memory addr = Unit-prop
+IsInSpace-prop spaces.Port addr = le_prop
+
+pub IsAsk-prop : (a : Ask) → IsProp (IsAsk a)
+IsAsk-prop a = hlevel (IsInSpace-prop, props)
 
 -- the cycle that is made of an ask, where this value was answered
 unfoldable pub cycle_of : Ask → ℕ → Ask

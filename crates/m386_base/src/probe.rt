@@ -1,5 +1,7 @@
 //! A bus that answers listed values.
 ghost use Rattle.std.specs.Prelude.{◌≡◌, ◌<◌, ◌≤◌, true, false, length, ℕ, [], None};
+ghost use Rattle.std.specs.Option.{ForSome};
+ghost use Rattle.m386_base.specs.Bus.{IsAsk, IsAsk-prop};
 ghost use Rattle.m386_base.specs.Replay.{are_told};
 
 use crate::ask::{Ask, answered};
@@ -23,6 +25,9 @@ pub struct ProbeBus<'a> {
     ghost within: { length asks.items ≤ length reads.now },
     ghost used: { 0 < stops → length asks.items ≡ length reads.now },
     ghost none: { stops ≡ 0 → first ≡ None },
+    ghost lawful: { ForSome last IsAsk } by { Prim.hlevel IsAsk-prop },
+    ghost opens: { length reads.now ≡ 0 → ForSome last (λ q. q.joined ≡ false) },
+    ghost unkept: { length asks.items ≡ 0 → kept ≡ false },
 }
 
 impl<'a> ProbeBus<'a> {

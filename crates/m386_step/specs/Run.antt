@@ -1,5 +1,5 @@
 -- A run of the written machine: one history of all processors, and how each ended.
-use Rattle.std.specs.Prelude.{◌≡◌, ℕ, ◌<◌, ◌==◌, ◌/◌, ◌%◌, ◌^◌, if◌then◌else◌, List, [], ◌∷◌, length, map, filter, slice_index, slice_get, Option, Some}
+use Rattle.std.specs.Prelude.{◌≡◌, ℕ, ◌<◌, ◌==◌, ◌/◌, ◌%◌, ◌^◌, if◌then◌else◌, List, length, map, filter, slice_index, slice_get, Some}
 use Rattle.std.specs.List.{AllByRecursion}
 use Rattle.m386_base.specs.declared.ask.Cycle.{Cycle}
 use Rattle.m386_image.specs.declared.image.Image.{Image}
