@@ -1,0 +1,132 @@
+-- What a probe says of the cycles of a step, and what follows for the processor that made them.
+use Rattle.std.proofs.Common.{◌≡◌, ◌≢◌, ℕ, zero, suc, ◌+◌, ◌<◌, ◌≤◌, true, List, [], ◌∷◌, ◌++◌, length, refl, sym, ap, subst, ◌∙◌, append_assoc, append-nil, add-one, arith, inl, inr, Option, Some, None, bit_and, cond, false, Bool}
+use Rattle.std.proofs.lemmas.List.{length-append}
+use Rattle.m386_base.specs.declared.ask.Ask.{Ask}
+use Rattle.m386_base.specs.Bus.{IsAsk, IsEnabled, cycle_of, mask}
+use Rattle.m386_base.specs.Laws.{Sound}
+use Rattle.m386_base.specs.Phrase.{Phrase, Judgement, follow, Whole, Faulted, Wants, Wrong, answer_of}
+use Rattle.m386_base.specs.Replay.{AreTold, replay, answer_told, Found, Lacks}
+use Rattle.m386_base.proofs.Bounds.{sound_never}
+use Rattle.m386_base.proofs.Growth.{IsExact, exact_none, exact_more, at_most_wants}
+use Rattle.m386_base.proofs.Phrases.{matches-cycle_of}
+use Rattle.m386_base.proofs.Replays.{replay_whole, replay_wants, answer_told-cycle_of}
+use Rattle.m386_memory.specs.declared.ended.ProcEnd.{ProcEnd}
+use Rattle.m386_state.specs.declared.proc.Mode.TheVariants.{Shutdown}
+use Rattle.m386_state.specs.declared.proc.Proc.{Proc}
+use Rattle.m386_step.specs.declared.answer.Probe.{Probe}
+use Rattle.m386_step.specs.declared.answer.Probe.TheVariants as probes
+use Rattle.m386_step.specs.Probes.{Probes}
+use Rattle.m386_step.specs.Step.{step_phrase, Follow}
+use Rattle.m386_step.specs.Steps.{Steps, Runs}
+use Rattle.m386_step.proofs.Short.{short_step, sound_step}
+use Rattle.m386_step.proofs.StepLists.{steps_more}
+use Rattle.m386_core.specs.Seat.{Waits, IsSeated}
+
+-- the judgement that a probe tells
+abbrev pub judged : Probe → Judgement Proc
+judged (probes.Wants q) = Wants q
+judged (probes.Whole s n) = Whole s []
+
+found_is : (a : Proc) (n : ℕ) (r : Probe) → Probes (Found a n) r → Whole a [] ≡ judged r
+found_is a n (probes.Wants q) h = cc
+found_is a n (probes.Whole s k) h =
+    let e : s ≡ a = cc in ap (λ x. Whole x []) (sym e)
+
+lacks_is : (q : Ask) (r : Probe) → Probes (Lacks q) r → Wants q ≡ judged r
+lacks_is q (probes.Wants p) h = let e : p ≡ q = cc in ap Wants (sym e)
+lacks_is q (probes.Whole s k) h = cc
+
+-- a probe over the values that the cycles of a step were answered judges these cycles
+pub probe_judges : (p : Proc) (ts : List Ask) (vs : List ℕ) (r : Probe) → AreTold ts vs → length ts ≡ length vs → IsExact (Follow p ts) → Probes (replay (step_phrase p) vs) r → Follow p ts ≡ judged r
+probe_judges p ts vs r told count exact probed = go (Follow p ts) refl exact
+  where
+    go : (j : Judgement Proc) → Follow p ts ≡ j → IsExact j → j ≡ judged r
+    go (Whole a rest) e x =
+        let w : Follow p ts ≡ Whole a [] = e ∙ ap (Whole a) x in
+        ap (Whole a) x ∙ found_is a (length ts) r (rw (replay_whole (step_phrase p) a ts vs told w) at probed)
+    go (Faulted f rest) e x = absurd (sound_never (step_phrase p) f ts rest (sound_step p) e)
+    go (Wants q) e x = lacks_is q r (rw (replay_wants (step_phrase p) q ts vs told count e) at probed)
+    go Wrong e x = absurd x
+
+-- ---- steps that make no cycle
+
+-- a step that needs no value makes no cycle, and is one more whole step
+pub settles_on : (k : ℕ) (s p after : Proc) (used : ℕ) (ts : List Ask) → p.mode ≢ Shutdown → Probes (replay (step_phrase p) []) (probes.Whole after used) → Steps k [] 0 s ts p → Steps (k + 1) [] 0 s ts after
+settles_on k s p after used ts lives probed h =
+    let f : Follow p [] ≡ Whole after [] = probe_judges p [] [] (probes.Whole after used) tt refl (exact_none (step_phrase p)) probed in
+    rw (add-one k) (rw append-nil at (steps_more k 0 s p after ts [] h lives f))
+
+-- a step that asks for its first cycle
+pub settles_at : (n : ℕ) (s : Proc) (ts : List Ask) (e : ProcEnd Proc) (a : Ask) → e.steps < n → e.after.mode ≢ Shutdown → Probes (replay (step_phrase e.after) []) (probes.Wants a) → IsAsk a → Steps e.steps [] 0 s ts e.after → Waits n s ts e [] a
+settles_at n s ts e a fewer lives probed lawful h = record {
+  whole = ts;
+  front = [];
+  cycles = sym (append-nil ts);
+  steps = h;
+  fewer = fewer;
+  lives = lives;
+  wants = probe_judges e.after [] [] (probes.Wants a) tt refl (exact_none (step_phrase e.after)) probed;
+  told = tt;
+  count = refl;
+  lawful = lawful;
+}
+
+-- ---- one more cycle
+
+-- a processor amid a step has made fewer than 192 cycles of it
+pub few_answers : (n : ℕ) (s : Proc) (ts : List Ask) (e : ProcEnd Proc) (answers : List ℕ) (a : Ask) → Waits n s ts e answers a → length answers < 192
+few_answers n s ts e answers a w =
+    let l : length w.front < 192 = at_most_wants 192 (step_phrase e.after) a w.front (short_step e.after) w.wants in
+    omega (arith, w.count)
+
+told_more : (ts : List Ask) (vs : List ℕ) (t : Ask) (v : ℕ) → AreTold ts vs → length ts ≡ length vs → answer_of t ≡ answer_told t v → AreTold (ts ++ t ∷ []) (vs ++ v ∷ [])
+told_more [] [] t v h l e = (e, tt)
+told_more [] (w ∷ vs) t v h l e = absurd (omega arith)
+told_more (x ∷ ts) [] t v h l e = absurd h
+told_more (x ∷ ts) (w ∷ vs) t v h l e = (h.0, told_more ts vs t v h.1 (omega arith) e)
+
+-- of the answer to an ask the enabled bytes are the whole
+answer_masked : (a : Ask) (v : ℕ) → IsEnabled a.enables v → (a.write ≡ true → v ≡ 0) → v ≡ cond a.write 0 (bit_and v (mask a.enables))
+answer_masked a v enabled none = go a.write refl
+  where
+    go : (b : Bool) → a.write ≡ b → v ≡ cond b 0 (bit_and v (mask a.enables))
+    go true w = none w
+    go false w = sym enabled
+
+-- what the values that were answered are, and how the cycles are judged, once the cycle that was wanted has been made
+pub record Hears (p : Proc) (front : List Ask) (answers : List ℕ) (r : Probe) : Type 0 where
+  pub told : AreTold front answers
+  pub count : length front ≡ length answers
+  pub judged_so : Follow p front ≡ judged r
+
+hears : (n : ℕ) (s : Proc) (ts : List Ask) (e : ProcEnd Proc) (answers : List ℕ) (a : Ask) (v : ℕ) (r : Probe) (w : Waits n s ts e answers a) → IsEnabled a.enables v → (a.write ≡ true → v ≡ 0) → Probes (replay (step_phrase e.after) (answers ++ v ∷ [])) r → Hears e.after (w.front ++ cycle_of a v ∷ []) (answers ++ v ∷ []) r
+hears n s ts e answers a v r w enabled none probed =
+    let x = cycle_of a v in
+    let told : AreTold (w.front ++ x ∷ []) (answers ++ v ∷ []) = told_more w.front answers x v w.told w.count (answer_told-cycle_of a v v (answer_masked a v enabled none)) in
+    let count : length (w.front ++ x ∷ []) ≡ length (answers ++ v ∷ []) = omega (arith, length-append w.front (x ∷ []), length-append answers (v ∷ []), w.count) in
+    let exact = exact_more (step_phrase e.after) a x w.front w.wants (matches-cycle_of a v enabled) in
+    record { told = told; count = count; judged_so = probe_judges e.after (w.front ++ x ∷ []) (answers ++ v ∷ []) r told count exact probed }
+
+-- the step asks for a further cycle
+pub hears_more : (n : ℕ) (s : Proc) (ts : List Ask) (e : ProcEnd Proc) (answers : List ℕ) (a b : Ask) (v : ℕ) → Waits n s ts e answers a → IsEnabled a.enables v → (a.write ≡ true → v ≡ 0) → Probes (replay (step_phrase e.after) (answers ++ v ∷ [])) (probes.Wants b) → IsAsk b → Waits n s (ts ++ cycle_of a v ∷ []) e (answers ++ v ∷ []) b
+hears_more n s ts e answers a b v w enabled none probed lawful =
+    let h = hears n s ts e answers a v (probes.Wants b) w enabled none probed in
+    record {
+      whole = w.whole;
+      front = w.front ++ cycle_of a v ∷ [];
+      cycles = ap (λ c. c ++ cycle_of a v ∷ []) w.cycles ∙ append_assoc w.whole w.front (cycle_of a v ∷ []);
+      steps = w.steps;
+      fewer = w.fewer;
+      lives = w.lives;
+      wants = h.judged_so;
+      told = h.told;
+      count = h.count;
+      lawful = lawful;
+    }
+
+-- the step is whole
+pub hears_end : (n : ℕ) (s : Proc) (ts : List Ask) (e : ProcEnd Proc) (answers : List ℕ) (a : Ask) (v : ℕ) (after : Proc) (used : ℕ) → Waits n s ts e answers a → IsEnabled a.enables v → (a.write ≡ true → v ≡ 0) → Probes (replay (step_phrase e.after) (answers ++ v ∷ [])) (probes.Whole after used) → Steps (e.steps + 1) [] 0 s (ts ++ cycle_of a v ∷ []) after
+hears_end n s ts e answers a v after used w enabled none probed =
+    let h = hears n s ts e answers a v (probes.Whole after used) w enabled none probed in
+    let cycles : ts ++ cycle_of a v ∷ [] ≡ w.whole ++ (w.front ++ cycle_of a v ∷ []) = ap (λ c. c ++ cycle_of a v ∷ []) w.cycles ∙ append_assoc w.whole w.front (cycle_of a v ∷ []) in
+    rw (add-one e.steps, cycles) (steps_more e.steps 0 s e.after after w.whole (w.front ++ cycle_of a v ∷ []) w.steps w.lives h.judged_so)

@@ -1,0 +1,4 @@
+//! Several processors on one memory, one cycle at a time, in a given order.
+#![tactic(auto)]
+
+mod seat;
