@@ -1,3 +1,4 @@
+pub mod Beginnings
 pub mod Locked
 pub mod Pieces
 pub mod Short

@@ -3,6 +3,7 @@
 
 pub mod access;
 pub mod answer;
+pub mod begin;
 pub mod exchange;
 pub mod fetch;
 pub mod halt;
