@@ -1,1 +1,5 @@
+pub mod Beginning
+pub mod Growing
+pub mod Keeping
+pub mod Places
 pub mod Seats

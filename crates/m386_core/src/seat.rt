@@ -1,5 +1,5 @@
 //! What a machine keeps of one processor between two cycles.
-ghost use Rattle.std.specs.Prelude.{◌≡◌, ◌≢◌, ◌+◌, ◌<◌, ◌≤◌, ◌++◌, ◌∷◌, [], true, false, List, length, ℕ};
+ghost use Rattle.std.specs.Prelude.{◌≡◌, ◌≢◌, ◌+◌, ◌<◌, ◌≤◌, ◌++◌, ◌∷◌, [], true, false, List, length, ℕ, Some, None, if◌then◌else◌};
 ghost use Rattle.std.specs.Option.{ForSome};
 ghost use Rattle.m386_base.specs.declared.ask.Ask.{Ask as AskRecord};
 ghost use Rattle.m386_base.specs.Bus.{IsEnabled, cycle_of};
@@ -67,13 +67,13 @@ impl Seat {
         }
     }
 
-    /// Whether the next ask is joined to the cycle before it.
-    pub fn is_joined(&self) -> bool
-        ensures { result ≡ is_joined self.now.next }
+    /// The number of this seat's processor, where it is amid a locked group: its next ask is joined to the cycle before it.
+    pub fn midgroup(&self, cpu: u8) -> Option<u8>
+        ensures { result ≡ (if is_joined self.now.next then Some cpu else None) }
     {
         match &self.next {
-            Some(ask) => ask.joined,
-            None => false,
+            Some(ask) if ask.joined => Some(cpu),
+            _ => None,
         }
     }
 }

@@ -1,0 +1,146 @@
+//! The machine: processors on one memory, one cycle at a time.
+ghost use Rattle.std.specs.Prelude.{◌≡◌, ◌≢◌, ◌↔◌, ◌<◌, ◌≤◌, [], Result, Ok, Err, IfOk, OnOk, OnErr};
+ghost use Rattle.m386_image.specs.Format.{IsValid};
+ghost use Rattle.m386_core.specs.Kept.{is_another};
+ghost use Rattle.m386_core.specs.Machine.{IsMachine, MakesCycle};
+ghost use Rattle.m386_core.specs.Place.{IsPassedOver};
+ghost use Rattle.m386_core.specs.declared.turn.Turn.TheVariants as turns;
+
+use crate::seat::{Seat, settle};
+use crate::turn::Turn;
+use arrayvec::ArrayVec;
+use m386_base::fault::NoMemory;
+use m386_image::image::Image;
+use m386_memory::ended::ProcEnd;
+use m386_memory::history::Record;
+use m386_state::proc::Proc;
+use m386_step::begin::{first_store, start};
+use std::alloc::Global;
+use std::marker::Model;
+
+/// One to eight processors that share memory and ports, each with the same budget of steps. Contracts see what it was made
+/// with, its record, and for each processor the state after its whole steps. The type keeps that the record is a front of
+/// a run: one lawful history in which the cycles of each processor are whole steps and at most one proper front of a step.
+///
+/// Whole steps that make no cycle are taken at once, so a processor that hasn't finished asks for a next cycle.
+#[derive(Drop)]
+pub struct Machine<'a> {
+    image: &'a Image,
+    cpus: u8,
+    budget: u32,
+    log: Record,
+    ends: Vec<ProcEnd<Proc>>,
+    seats: Vec<Seat>,
+    midgroup: Option<u8>,
+}
+
+impl<'a> Model for Machine<'a> {
+    ghost use Rattle.m386_core.specs.Machine.{MachineView};
+    ghost use Rattle.m386_core.specs.Kept.{IsKept};
+
+    ghost Value = { MachineView };
+
+    ghost view = { λ m. record { image = m.image.now; cpus = m.cpus; budget = m.budget; log = m.log; ends = m.ends.items } };
+
+    ghost invariant = { λ m. IsKept m.image.now m.cpus m.budget m.log.first m.log.cycles m.ends.items m.seats.items m.midgroup };
+}
+
+/// Whether a processor other than this one is amid a locked group.
+fn is_held_up(midgroup: Option<u8>, cpu: u8) -> bool
+    ensures { result ≡ is_another midgroup cpu }
+{
+    match midgroup {
+        Some(amid) => amid != cpu,
+        None => false,
+    }
+}
+
+impl<'a> Machine<'a> {
+    /// A machine with the image's first `cpus` processors, which make up to `steps` steps each, at most 65,536.
+    pub fn new(alloc: Global, image: &'a Image, cpus: u8, steps: u32) -> Result<Machine<'a>, NoMemory>
+        requires valid { IsValid image.now }
+        requires some { 1 ≤ cpus }
+        requires most { cpus ≤ image.now.cpus }
+        requires budget { steps ≤ 65536 }
+        ensures image { IfOk result (λ m. m.image ≡ image.now) }
+        ensures cpus { IfOk result (λ m. m.cpus ≡ cpus) }
+        ensures steps { IfOk result (λ m. m.budget ≡ steps) }
+        ensures empty { IfOk result (λ m. m.log.cycles ≡ []) }
+        ensures kept { IfOk result IsMachine }
+    {
+        let log = Record::new(alloc, first_store(alloc, image)?);
+        let mut ends = Vec::new(alloc);
+        let mut seats = Vec::new(alloc);
+        for cpu in 0..cpus {
+            let mut end = ProcEnd {
+                after: start(image, cpu),
+                steps: 0,
+            };
+            let next = settle(&mut end, steps);
+            ends.push(end)?;
+            seats.push(Seat {
+                answers: ArrayVec::new(),
+                next,
+            })?;
+        }
+        Ok(Machine {
+            image,
+            cpus,
+            budget: steps,
+            log,
+            ends,
+            seats,
+            midgroup: None,
+        })
+    }
+
+    /// The image that it was made of.
+    pub fn image(&self) -> &Image
+        ensures image { result.now ≡ self.now.image }
+        ensures kept { IsMachine self.now }
+    {
+        self.image
+    }
+
+    /// How many processors it has.
+    pub fn cpus(&self) -> u8
+        ensures cpus { result ≡ self.now.cpus }
+        ensures kept { IsMachine self.now }
+    {
+        self.cpus
+    }
+
+    /// How many steps each of its processors makes at most.
+    pub fn budget(&self) -> u32
+        ensures budget { result ≡ self.now.budget }
+        ensures kept { IsMachine self.now }
+    {
+        self.budget
+    }
+
+    /// Makes the next cycle of a processor, and takes the whole steps of it that follow and make none. It is passed over
+    /// exactly where it has finished, or another is amid a locked group. Where there is no memory to keep the cycle, nothing
+    /// has changed.
+    ///
+    /// The unfinished step is replayed over what its cycles were answered: a cycle costs as much as the step up to it.
+    pub fn next(&mut self, cpu: u8) -> Result<Turn, NoMemory>
+        requires { cpu < self.old.cpus }
+        ensures passed { (result ≡ Ok turns.PassedOver)
+            ↔ IsPassedOver self.old.image self.old.cpus self.old.budget self.old.log.cycles cpu }
+        ensures made { result ≡ Ok turns.Made → MakesCycle cpu self.old self.new }
+        ensures same { result ≢ Ok turns.Made → self.new ≡ self.old }
+        ensures kept { IsMachine self.new }
+    {
+        let at = cpu as usize;
+        if is_held_up(self.midgroup, cpu) {
+            return Ok(Turn::PassedOver);
+        }
+        let Some(ask) = self.seats[at].next else {
+            return Ok(Turn::PassedOver);
+        };
+        let value = self.log.put(cpu, ask)?;
+        self.seats[at].hear(&mut self.ends[at], self.budget, value);
+        self.midgroup = self.seats[at].midgroup(cpu);
+        Ok(Turn::Made)
+    }
+}
