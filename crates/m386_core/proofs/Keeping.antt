@@ -19,7 +19,7 @@ use Rattle.m386_step.specs.Steps.{Plan, Runs}
 use Rattle.m386_core.specs.declared.seat.Seat.{Seat}
 use Rattle.m386_core.specs.Kept.{AreSeated, IsAmid, IsKept, is_another}
 use Rattle.m386_core.specs.Machine.{IsPlaced, IsFrontOfRun, IsMachine}
-use Rattle.m386_core.specs.Place.{Amid, HasFinishedAs, WaitsAs, IsHeldUp, IsPassedOver}
+use Rattle.m386_core.specs.Place.{Amid, HasFinishedAs, WaitsAs, IsAmidGroup, IsPassedOver}
 use Rattle.m386_core.specs.Seat.{Waits, IsSeated, is_joined}
 use Rattle.m386_core.proofs.Places.{amid_after, amid_not_finished, amid_same, no_plan}
 
@@ -110,22 +110,23 @@ module _ (I : Image) (c n : ℕ) (first : Contents) (H : List Cycle) (E : List (
       let h : IsSeated n (start_of I p) (cycles_of p H) e.0 t.answers.items t.next = seated_at p e.0 t lt e.1 t-is in
       inl (e.0, finished_as I n H p e.0 k.valid (rw next at h))
 
-  joined_at : (q : ℕ) (e : ProcEnd Proc) (answers : List ℕ) (next : Option Ask) (p : ℕ) → q < c → q ≢ p → IsSeated n (start_of I q) (cycles_of q H) e answers next → is_joined next ≡ true → IsHeldUp I c n H p
-  joined_at q e answers None p lt other h j = absurd (let d : false ≡ true = j in cc)
-  joined_at q e answers (Some a) p lt other h j = (q, a, lt, other, (e, waits_as I n H q e answers a k.valid h), j)
+  joined_at : (q : ℕ) (e : ProcEnd Proc) (answers : List ℕ) (next : Option Ask) → q < c → IsSeated n (start_of I q) (cycles_of q H) e answers next → is_joined next ≡ true → IsAmidGroup I c n H q
+  joined_at q e answers None lt h j = absurd (let d : false ≡ true = j in cc)
+  joined_at q e answers (Some a) lt h j = (lt, (a, (e, waits_as I n H q e answers a k.valid h), j))
 
-  held_at : (q p : ℕ) → midgroup ≡ Some q → q ≢ p → IsHeldUp I c n H p
-  held_at q p is other =
+  -- the processor that is named is amid a locked group
+  pub amid_of_name : (q : ℕ) → midgroup ≡ Some q → IsAmidGroup I c n H q
+  amid_of_name q is =
       let s = seat_of q (k.amid.below q is) in
       let j : is_joined s.seat.next ≡ true = subst (λ (y : Seat). is_joined y.next ≡ true) s.seat_is (k.amid.joined q s.seat is) in
-      joined_at q s.state s.seat.answers.items s.seat.next p (k.amid.below q is) other s.seated j
+      joined_at q s.state s.seat.answers.items s.seat.next (k.amid.below q is) s.seated j
 
   pub held_up : (p : ℕ) → is_another midgroup p ≡ true → IsPassedOver I c n H p
   held_up p h = inr (go midgroup refl h)
     where
-      go : (m : Option ℕ) → midgroup ≡ m → is_another m p ≡ true → IsHeldUp I c n H p
+      go : (m : Option ℕ) → midgroup ≡ m → is_another m p ≡ true → (q : ℕ) × (q ≢ p) × IsAmidGroup I c n H q
       go None is h = absurd (let d : false ≡ true = h in cc)
-      go (Some q) is h = held_at q p is (λ e. grind (arith, h, e))
+      go (Some q) is h = (q, (λ e. grind (arith, h, e)), amid_of_name q is)
 
   -- a processor whose next ask is joined is the one that is named
   named_at : (q : ℕ) (e2 : ProcEnd Proc) (b : Ask) (e : ProcEnd Proc) (t : Seat) (next : Option Ask) → q < c → get_or seats q t ≡ t → t.next ≡ next → IsSeated n (start_of I q) (cycles_of q H) e t.answers.items next → WaitsAs I n H q e2 b → b.joined ≡ true → midgroup ≡ Some q
@@ -136,16 +137,20 @@ module _ (I : Image) (c n : ℕ) (first : Contents) (H : List Cycle) (E : List (
       let joined : is_joined t.next ≡ true = rw (is, same) j in
       k.amid.alone q t lt (subst (λ (y : Seat). is_joined y.next ≡ true) (sym t-is) joined)
 
+  pub name_of_amid : (q : ℕ) → IsAmidGroup I c n H q → midgroup ≡ Some q
+  name_of_amid q h =
+      let s = seat_of q h.0 in
+      named_at q h.1.1.0 h.1.0 s.state s.seat s.seat.next h.0 s.seat_is refl s.seated h.1.1.1 h.1.2
+
   pub not_passed : (p : ℕ) (t : Seat) (a : Ask) → p < c → is_another midgroup p ≡ false → get_or seats p t ≡ t → t.next ≡ Some a → IsPassedOver I c n H p → ⊥
   not_passed p t a lt alone t-is next (inl f) =
       let e = item E p (omega (arith, k.count)) in
       let w = waits_as I n H p e.0 t.answers.items a k.valid (waits_at p e.0 t a lt e.1 t-is next) in
       amid_not_finished e.0.steps n (plan_of I p) (start_of I p) e.0.after (cycles_of p H) a f.0 w.fewer w.amid f.1
   not_passed p t a lt alone t-is next (inr h) =
-      let s = seat_of h.0 h.2 in
-      let named : midgroup ≡ Some h.0 = named_at h.0 h.4.0 h.1 s.state s.seat s.seat.next h.2 s.seat_is refl s.seated h.4.1 h.5 in
+      let named : midgroup ≡ Some h.0 = name_of_amid h.0 h.2 in
       let b : is_another (Some h.0) p ≡ false = rw named at alone in
-      h.3 (grind (arith, b))
+      h.1 (grind (arith, b))
 
   -- a joined ask follows the processor's own cycle
   pub joined_follows : (p : ℕ) (t : Seat) (a : Ask) → p < c → get_or seats p t ≡ t → t.next ≡ Some a → a.joined ≡ true → last_cpu (past H) ≡ Some p

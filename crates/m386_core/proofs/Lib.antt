@@ -1,5 +1,7 @@
 pub mod Beginning
+pub mod Groups
 pub mod Growing
 pub mod Keeping
+pub mod Lengths
 pub mod Places
 pub mod Seats

@@ -1,8 +1,9 @@
 -- What contracts see of a machine, and what every machine keeps.
-use Rattle.std.specs.Prelude.{◌≡◌, ℕ, ◌<◌, ◌≤◌, ◌⊎◌, List, [], ◌∷◌, ◌++◌, length, slice_get, Some}
+use Rattle.std.specs.Prelude.{◌≡◌, ℕ, ◌<◌, ◌≤◌, ◌⊎◌, List, [], ◌∷◌, ◌++◌, length, slice_get, Some, true}
 use Rattle.std.specs.List.{AllByRecursion}
 use Rattle.m386_base.specs.declared.ask.Ask.{Ask}
 use Rattle.m386_base.specs.declared.ask.Cycle.{Cycle}
+use Rattle.m386_base.specs.Bus.{cycle_of}
 use Rattle.m386_image.specs.declared.image.Image.{Image}
 use Rattle.m386_image.specs.Format.{IsValid}
 use Rattle.m386_memory.specs.Contents.{Contents}
@@ -10,7 +11,7 @@ use Rattle.m386_memory.specs.History.{RecordView, IsHistory}
 use Rattle.m386_memory.specs.declared.ended.ProcEnd.{ProcEnd}
 use Rattle.m386_state.specs.declared.proc.Proc.{Proc}
 use Rattle.m386_step.specs.Run.{BeginsWith}
-use Rattle.m386_core.specs.Place.{HasFinishedAs, WaitsAs}
+use Rattle.m386_core.specs.Place.{HasFinishedAs, WaitsAs, Awaits, IsAmidGroup, IsPassedOver}
 
 -- What contracts see of a machine: what it was made with; the bytes that it began with and the cycles made since; and for
 -- each processor the state after its whole steps, and how many these are.
@@ -51,9 +52,27 @@ pub record SameMachine (old new : MachineView) : Type 0 where
   pub budget : new.budget ≡ old.budget
   pub first : new.log.first ≡ old.log.first
 
--- one cycle of this processor was made
+-- a machine passes processor p over
+abbrev pub PassesOver : MachineView → ℕ → Type 0
+PassesOver m p = IsPassedOver m.image m.cpus m.budget m.log.cycles p
+
+-- in a machine processor q is amid a locked group
+abbrev pub HasAmidGroup : MachineView → ℕ → Type 0
+HasAmidGroup m q = IsAmidGroup m.image m.cpus m.budget m.log.cycles q
+
+-- one cycle of this processor was made: the one that it asked for next, with what it was answered
 pub record MakesCycle (cpu : ℕ) (old new : MachineView) : Type 0 where
   pub same : SameMachine old new
-  pub cycle : Cycle
-  pub by : cycle.cpu ≡ cpu
-  pub cycles : new.log.cycles ≡ old.log.cycles ++ cycle ∷ []
+  pub asked : Ask
+  pub value : ℕ
+  pub awaited : Awaits old.image old.budget old.log.cycles cpu asked
+  pub cycles : new.log.cycles ≡ old.log.cycles ++ record { cpu = cpu; ask = cycle_of asked value } ∷ []
+
+-- one cycle of this processor was made, and then others of it, each joined to the one before
+pub record MakesGroup (cpu : ℕ) (old new : MachineView) : Type 0 where
+  pub same : SameMachine old new
+  pub first : Cycle
+  pub others : List Cycle
+  pub by : first.cpu ≡ cpu
+  pub joined : AllByRecursion (λ (x : Cycle). (x.cpu ≡ cpu) × (x.ask.joined ≡ true)) others
+  pub cycles : new.log.cycles ≡ old.log.cycles ++ first ∷ others

@@ -37,11 +37,11 @@ HasFinished I n H p = (e : ProcEnd Proc) × HasFinishedAs I n H p e
 abbrev pub Awaits : Image → ℕ → List Cycle → ℕ → Ask → Type 0
 Awaits I n H p a = (e : ProcEnd Proc) × WaitsAs I n H p e a
 
--- a processor other than p is amid a locked group: the cycle that it asks for next is joined
-abbrev pub IsHeldUp : Image → ℕ → ℕ → List Cycle → ℕ → Type 0
-IsHeldUp I c n H p = (q : ℕ) × (a : Ask) × (q < c) × (q ≢ p) × Awaits I n H q a × (a.joined ≡ true)
+-- processor q is amid a locked group: the cycle that it asks for next is joined to its last
+abbrev pub IsAmidGroup : Image → ℕ → ℕ → List Cycle → ℕ → Type 0
+IsAmidGroup I c n H q = (q < c) × ((a : Ask) × Awaits I n H q a × (a.joined ≡ true))
 
 -- Processor p is passed over: it has finished, or another is amid a locked group.
 -- Own choice: docs/DECISIONS.md, "Orders"
 abbrev pub IsPassedOver : Image → ℕ → ℕ → List Cycle → ℕ → Type 0
-IsPassedOver I c n H p = HasFinished I n H p ⊎ IsHeldUp I c n H p
+IsPassedOver I c n H p = HasFinished I n H p ⊎ ((q : ℕ) × (q ≢ p) × IsAmidGroup I c n H q)

@@ -1,17 +1,17 @@
 //! The machine: processors on one memory, one cycle at a time.
-ghost use Rattle.std.specs.Prelude.{◌≡◌, ◌≢◌, ◌↔◌, ◌<◌, ◌≤◌, [], Result, Ok, Err, IfOk, OnOk, OnErr};
+ghost use Rattle.std.specs.Prelude.{◌≡◌, ◌≢◌, ◌↔◌, ◌⊎◌, ◌<◌, ◌≤◌, [], Result, Ok, Err, IfOk, OnErr, ℕ, Some};
 ghost use Rattle.m386_image.specs.Format.{IsValid};
 ghost use Rattle.m386_core.specs.Kept.{is_another};
-ghost use Rattle.m386_core.specs.Machine.{IsMachine, MakesCycle};
-ghost use Rattle.m386_core.specs.Place.{IsPassedOver};
+ghost use Rattle.m386_core.specs.Machine.{IsMachine, MakesCycle, MakesGroup, PassesOver, HasAmidGroup};
 ghost use Rattle.m386_core.specs.declared.turn.Turn.TheVariants as turns;
 
 use crate::seat::{Seat, settle};
 use crate::turn::Turn;
 use arrayvec::ArrayVec;
 use m386_base::fault::NoMemory;
+use m386_base::list::List;
 use m386_image::image::Image;
-use m386_memory::ended::ProcEnd;
+use m386_memory::ended::{Ended, ProcEnd};
 use m386_memory::history::Record;
 use m386_state::proc::Proc;
 use m386_step::begin::{first_store, start};
@@ -125,8 +125,7 @@ impl<'a> Machine<'a> {
     /// The unfinished step is replayed over what its cycles were answered: a cycle costs as much as the step up to it.
     pub fn next(&mut self, cpu: u8) -> Result<Turn, NoMemory>
         requires { cpu < self.old.cpus }
-        ensures passed { (result ≡ Ok turns.PassedOver)
-            ↔ IsPassedOver self.old.image self.old.cpus self.old.budget self.old.log.cycles cpu }
+        ensures passed { (result ≡ Ok turns.PassedOver) ↔ PassesOver self.old cpu }
         ensures made { result ≡ Ok turns.Made → MakesCycle cpu self.old self.new }
         ensures same { result ≢ Ok turns.Made → self.new ≡ self.old }
         ensures kept { IsMachine self.new }
@@ -142,5 +141,48 @@ impl<'a> Machine<'a> {
         self.seats[at].hear(&mut self.ends[at], self.budget, value);
         self.midgroup = self.seats[at].midgroup(cpu);
         Ok(Turn::Made)
+    }
+
+    /// Makes the next cycle of a processor, and those joined to it that follow. It is passed over exactly where `next` passes
+    /// it over. Otherwise no processor is amid a locked group afterwards. Where there is no memory to keep a cycle, the cycles
+    /// that this call made before stay, and their group may stand open.
+    pub fn group(&mut self, cpu: u8) -> Result<Turn, NoMemory>
+        requires { cpu < self.old.cpus }
+        ensures passed { (result ≡ Ok turns.PassedOver) ↔ PassesOver self.old cpu }
+        ensures unchanged { result ≡ Ok turns.PassedOver → self.new ≡ self.old }
+        ensures made { result ≡ Ok turns.Made → MakesGroup cpu self.old self.new }
+        ensures closed { result ≡ Ok turns.Made → (q : ℕ) → ¬ HasAmidGroup self.new q }
+        ensures err { OnErr result ((self.new ≡ self.old) ⊎ MakesGroup cpu self.old self.new) }
+        ensures kept { IsMachine self.new }
+    {
+        if self.next(cpu)? == Turn::PassedOver {
+            return Ok(Turn::PassedOver);
+        }
+        while self.midgroup() == Some(cpu) {
+            self.next(cpu)?;
+        }
+        Ok(Turn::Made)
+    }
+
+    /// The processor that is amid a locked group, if one is: its next ask is joined to its last cycle.
+    pub fn midgroup(&self) -> Option<u8>
+        ensures named { (q : ℕ) → (result ≡ Some q) ↔ HasAmidGroup self.now q }
+        ensures kept { IsMachine self.now }
+    {
+        self.midgroup
+    }
+
+    /// How the run stands: the record of the cycles, and for each processor the state after its whole steps and how many
+    /// these are. It takes no memory.
+    pub fn ended(self) -> Ended<Proc>
+        ensures log { result.log ≡ self.entry.log }
+        ensures procs { result.procs ≡ self.entry.ends }
+        ensures kept { IsMachine self.entry }
+    {
+        let Machine { log, ends, .. } = self;
+        Ended {
+            log,
+            procs: List::of(ends),
+        }
     }
 }

@@ -64,7 +64,7 @@ effect-answered now ask v = go ask.write refl
     go false w = rw w refl
 
 -- the parts of an ask that an answer leaves
-same-answered : (ask : Ask) (v : ℕ) → ((cycle_of ask v).write ≡ ask.write) × ((cycle_of ask v).joined ≡ ask.joined) × ((cycle_of ask v).space ≡ ask.space)
+pub same-answered : (ask : Ask) (v : ℕ) → ((cycle_of ask v).write ≡ ask.write) × ((cycle_of ask v).joined ≡ ask.joined) × ((cycle_of ask v).space ≡ ask.space)
 unfolding cycle_of
 same-answered ask v = go ask.write
   where

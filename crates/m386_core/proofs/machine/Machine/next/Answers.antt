@@ -3,6 +3,8 @@ use Rattle.std.proofs.lemmas.List.{get_or-set_same}
 use Rattle.m386_base.specs.declared.ask.Cycle.{Cycle}
 use Rattle.m386_base.specs.Bus.{cycle_of}
 use Rattle.m386_base.specs.declared.fault.NoMemory.{NoMemory}
+use Rattle.m386_memory.specs.declared.ended.ProcEnd.{ProcEnd}
+use Rattle.m386_state.specs.declared.proc.Proc.{Proc}
 use Rattle.m386_core.specs.declared.turn.Turn.TheVariants as turns
 use Rattle.m386_core.specs.declared.seat.Seat.{Seat}
 use Rattle.m386_core.specs.Kept.{IsKept, is_another}
@@ -10,7 +12,7 @@ use Rattle.m386_core.specs.Seat.{Waits}
 use Rattle.m386_step.specs.Run.{start_of}
 use Rattle.m386_memory.specs.History.{IsHistory, cycles_of}
 use Rattle.m386_core.proofs.Growing.{kept_more}
-use Rattle.m386_core.proofs.Keeping.{err_is_not_ok, waits_on, lawful_at, kept_machine, held_up, finished_at, waits_at, not_passed, joined_follows}
+use Rattle.m386_core.proofs.Keeping.{err_is_not_ok, waits_on, waits_as, lawful_at, kept_machine, held_up, finished_at, waits_at, not_passed, joined_follows}
 use Rattle.m386_core.proofs.Seats.{few_answers}
 use Rattle.m386_core.proofs.machine.Machine.next.Goals as goal
 
@@ -107,8 +109,16 @@ returns-clause-passed c =
 pub returns-clause-made : goal.returns-clause-made
 returns-clause-made c =
     let i = c.self.inside in
-    let x : Cycle = record { cpu = c.args.cpu; ask = cycle_of c.in-Some.ask c.in_ok-value.value } in
-    λ _. rw (← c.self.view_is, c.in_ok-value.ensures.made) (record { same = record { image = refl; cpus = refl; budget = refl; first = refl }; cycle = x; by = refl; cycles = refl })
+    let below : c.args.cpu < i.cpus = rw (← c.self.view_is) at c.requires in
+    let e : ProcEnd Proc = c.index_mut-2.result.now in
+    let waited = waits_on i.image.now i.cpus i.budget i.log.first i.log.cycles i.ends.items i.seats.items i.midgroup c.self.invariant c.args.cpu c.index.result.now c.index_mut.result.now e c.in-Some.ask below c.index.ensures c.index_mut.ensures.value c.index_mut-2.ensures.value c.in-Some.is in
+    λ _. rw (← c.self.view_is, c.in_ok-value.ensures.made) (record {
+      same = record { image = refl; cpus = refl; budget = refl; first = refl };
+      asked = c.in-Some.ask;
+      value = c.in_ok-value.value;
+      awaited = (e, waits_as i.image.now i.budget i.log.cycles c.args.cpu e c.index_mut.result.now.answers.items c.in-Some.ask c.self.invariant.valid waited);
+      cycles = refl;
+    })
 
 pub returns-clause-kept : goal.returns-clause-kept
 returns-clause-kept c =
