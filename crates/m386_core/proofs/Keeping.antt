@@ -1,5 +1,6 @@
 -- What the parts of a machine say of its processors, and what one more cycle makes of them.
 use Rattle.std.proofs.Common.{◌≡◌, ◌≢◌, ℕ, zero, suc, ◌+◌, ◌<◌, ◌≤◌, Bool, true, false, cond, eqb, List, [], ◌∷◌, ◌++◌, length, get_or, set, refl, sym, ap, subst, ◌∙◌, arith, inl, inr, Option, Some, None, ◌⊎◌, Result, Ok, Err}
+use Rattle.std.specs.Option.{is_some}
 use Rattle.std.specs.Result.{IsErr}
 use Rattle.std.specs.List.{slice_get, AllByRecursion}
 use Rattle.std.proofs.lemmas.List.{length-set, get_or-set_same, get_or-set_other, get_or_default}
@@ -19,7 +20,7 @@ use Rattle.m386_step.specs.Steps.{Plan, Runs}
 use Rattle.m386_core.specs.declared.seat.Seat.{Seat}
 use Rattle.m386_core.specs.Kept.{AreSeated, IsAmid, IsKept, is_another}
 use Rattle.m386_core.specs.Machine.{IsPlaced, IsFrontOfRun, IsMachine}
-use Rattle.m386_core.specs.Place.{Amid, HasFinishedAs, WaitsAs, IsAmidGroup, IsPassedOver}
+use Rattle.m386_core.specs.Place.{Amid, HasFinishedAs, WaitsAs, HasFinished, IsAmidGroup, IsPassedOver}
 use Rattle.m386_core.specs.Seat.{Waits, IsSeated, is_joined}
 use Rattle.m386_core.proofs.Places.{amid_after, amid_not_finished, amid_same, no_plan}
 
@@ -47,6 +48,13 @@ pub item : {X : Type 0} (xs : List X) (i : ℕ) → i < length xs → (x : X) ×
 item [] i lt = absurd (omega arith)
 item (x ∷ xs) zero lt = (x, refl)
 item (x ∷ xs) (suc i) lt = item xs i (omega arith)
+
+pub none_of : {X : Type 0} (o : Option X) → is_some o ≡ false → o ≡ None
+none_of None h = refl
+none_of (Some x) h = cc
+
+pub some_same : (p q : ℕ) → ◌≡◌ {A = Option ℕ} (Some p) (Some q) → p ≡ q
+some_same p q e = cc
 
 pub err_is_not_ok : {T F : Type 0} (r : Result T F) (t : T) → IsErr r → r ≡ Ok t → ⊥
 err_is_not_ok (Ok x) t h e = cc
@@ -104,11 +112,11 @@ module _ (I : Image) (c n : ℕ) (first : Contents) (H : List Cycle) (E : List (
       let same : x ≡ y = read_twice seats p x y (omega (arith, k.count_seats)) x-is y-is in
       waits_at p e y a lt (sym e-is) (sym y-is) (ap (λ (t : Seat). t.next) (sym same) ∙ next)
 
-  pub finished_at : (p : ℕ) (t : Seat) → p < c → get_or seats p t ≡ t → t.next ≡ None → IsPassedOver I c n H p
+  pub finished_at : (p : ℕ) (t : Seat) → p < c → get_or seats p t ≡ t → t.next ≡ None → HasFinished I n H p
   finished_at p t lt t-is next =
       let e = item E p (omega (arith, k.count)) in
       let h : IsSeated n (start_of I p) (cycles_of p H) e.0 t.answers.items t.next = seated_at p e.0 t lt e.1 t-is in
-      inl (e.0, finished_as I n H p e.0 k.valid (rw next at h))
+      (e.0, finished_as I n H p e.0 k.valid (rw next at h))
 
   joined_at : (q : ℕ) (e : ProcEnd Proc) (answers : List ℕ) (next : Option Ask) → q < c → IsSeated n (start_of I q) (cycles_of q H) e answers next → is_joined next ≡ true → IsAmidGroup I c n H q
   joined_at q e answers None lt h j = absurd (let d : false ≡ true = j in cc)
@@ -151,6 +159,23 @@ module _ (I : Image) (c n : ℕ) (first : Contents) (H : List Cycle) (E : List (
       let named : midgroup ≡ Some h.0 = name_of_amid h.0 h.2 in
       let b : is_another (Some h.0) p ≡ false = rw named at alone in
       h.1 (grind (arith, b))
+
+  -- the processor that is named isn't passed over
+  pub named_not_passed : (q : ℕ) → midgroup ≡ Some q → IsPassedOver I c n H q → ⊥
+  named_not_passed q is (inl f) =
+      let w = (amid_of_name q is).1.1 in
+      amid_not_finished w.0.steps n (plan_of I q) (start_of I q) w.0.after (cycles_of q H) (amid_of_name q is).1.0 f.0 w.1.fewer w.1.amid f.1
+  named_not_passed q is (inr h) =
+      let both : Some h.0 ≡ Some q = sym (name_of_amid h.0 h.2) ∙ is in
+      h.1 (let e : h.0 ≡ q = cc in e)
+
+  -- where none is named, each that hasn't finished isn't passed over
+  pub open_not_passed : (p : ℕ) (t : Seat) → midgroup ≡ None → p < c → get_or seats p t ≡ t → is_some t.next ≡ true → IsPassedOver I c n H p → ⊥
+  open_not_passed p t none lt t-is some h = go t.next refl
+    where
+      go : (next : Option Ask) → t.next ≡ next → ⊥
+      go None e = let d : false ≡ true = rw e at some in cc
+      go (Some a) e = not_passed p t a lt (rw none refl) t-is e h
 
   -- a joined ask follows the processor's own cycle
   pub joined_follows : (p : ℕ) (t : Seat) (a : Ask) → p < c → get_or seats p t ≡ t → t.next ≡ Some a → a.joined ≡ true → last_cpu (past H) ≡ Some p

@@ -3,5 +3,6 @@ pub mod Groups
 pub mod Growing
 pub mod Keeping
 pub mod Lengths
+pub mod Orders
 pub mod Places
 pub mod Seats

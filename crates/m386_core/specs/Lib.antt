@@ -1,4 +1,6 @@
 pub mod Kept
 pub mod Machine
+pub mod Order
 pub mod Place
+pub mod Running
 pub mod Seat

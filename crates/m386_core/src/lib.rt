@@ -2,5 +2,7 @@
 #![tactic(auto)]
 
 pub mod machine;
+pub mod order;
+mod running;
 mod seat;
 pub mod turn;

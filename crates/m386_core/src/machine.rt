@@ -1,8 +1,10 @@
 //! The machine: processors on one memory, one cycle at a time.
-ghost use Rattle.std.specs.Prelude.{◌≡◌, ◌≢◌, ◌↔◌, ◌⊎◌, ◌<◌, ◌≤◌, [], Result, Ok, Err, IfOk, OnErr, ℕ, Some};
+ghost use Rattle.std.specs.Prelude.{◌≡◌, ◌≢◌, ◌↔◌, ◌⊎◌, ◌<◌, ◌≤◌, [], Result, Ok, Err, IfOk, OnErr, ℕ, Some, None};
+ghost use Rattle.std.specs.Option.{ForSome};
 ghost use Rattle.m386_image.specs.Format.{IsValid};
 ghost use Rattle.m386_core.specs.Kept.{is_another};
 ghost use Rattle.m386_core.specs.Machine.{IsMachine, MakesCycle, MakesGroup, PassesOver, HasAmidGroup};
+ghost use Rattle.m386_core.specs.Place.{HasFinished};
 ghost use Rattle.m386_core.specs.declared.turn.Turn.TheVariants as turns;
 
 use crate::seat::{Seat, settle};
@@ -170,6 +172,26 @@ impl<'a> Machine<'a> {
         ensures kept { IsMachine self.now }
     {
         self.midgroup
+    }
+
+    /// A processor that isn't passed over: the one that is amid a locked group, else the first that hasn't finished. `None`:
+    /// all have finished.
+    pub fn due(&self) -> Option<u8>
+        ensures below { ForSome result (λ p. p < self.now.cpus) }
+        ensures due { ForSome result (λ p. ¬ PassesOver self.now p) }
+        ensures over { result ≡ None → (p : ℕ) → p < self.now.cpus
+            → HasFinished self.now.image self.now.budget self.now.log.cycles p }
+        ensures kept { IsMachine self.now }
+    {
+        if self.midgroup.is_some() {
+            return self.midgroup;
+        }
+        for cpu in 0..self.cpus {
+            if self.seats[cpu as usize].next.is_some() {
+                return Some(cpu);
+            }
+        }
+        None
     }
 
     /// How the run stands: the record of the cycles, and for each processor the state after its whole steps and how many

@@ -1,4 +1,4 @@
-use Rattle.std.proofs.Common.{◌≡◌, ◌<◌, ◌++◌, ◌∷◌, [], List, ℕ, refl, sym, ◌∙◌, ap, arith, rules, true, false, get_or, Some, None, Ok, Err, set, length, is_err}
+use Rattle.std.proofs.Common.{◌≡◌, ◌<◌, ◌++◌, ◌∷◌, [], List, ℕ, refl, sym, ◌∙◌, ap, arith, rules, true, false, get_or, Some, None, Ok, Err, set, length, inl}
 use Rattle.std.proofs.lemmas.List.{get_or-set_same}
 use Rattle.m386_base.specs.declared.ask.Cycle.{Cycle}
 use Rattle.m386_base.specs.Bus.{cycle_of}
@@ -31,7 +31,7 @@ pub returns-in_default-clause-passed : goal.returns-in_default-clause-passed
 returns-in_default-clause-passed c =
     let i = c.self.inside in
     let below : c.args.cpu < i.cpus = rw (← c.self.view_is) at c.requires in
-    rw (← c.self.view_is) (λ _. finished_at i.image.now i.cpus i.budget i.log.first i.log.cycles i.ends.items i.seats.items i.midgroup c.self.invariant c.args.cpu c.index.result.now below (sym c.index.ensures) c.in_default.is, λ _. refl)
+    rw (← c.self.view_is) (λ _. inl (finished_at i.image.now i.cpus i.budget i.log.first i.log.cycles i.ends.items i.seats.items i.midgroup c.self.invariant c.args.cpu c.index.result.now below (sym c.index.ensures) c.in_default.is), λ _. refl)
 
 pub returns-in_default-clause-kept : goal.returns-in_default-clause-kept
 returns-in_default-clause-kept c =
