@@ -2,9 +2,12 @@ pub mod Access
 pub mod Bounds
 pub mod Descriptors
 pub mod Finite
+pub mod Gathered
 pub mod Groups
 pub mod Growth
+pub mod Lanes
 pub mod Masks
+pub mod Moved
 pub mod Phrases
 pub mod Probing
 pub mod Replays

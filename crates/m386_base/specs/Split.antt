@@ -1,6 +1,6 @@
 -- The aligned groups of an access.
-use Rattle.std.specs.Prelude.{ℕ, ◌+◌, ◌-◌, ◌*◌, ◌%◌, ◌^◌, List, [], ◌∷◌, ◌++◌, ◌/◌, ◌<◌, ◌≡◌, ◌⊎◌, if◌then◌else◌, nat_le, ◌==◌, eqb, map, bit_and}
-use Rattle.std.specs.List.{AllByRecursion, IsDistinct, flat_map, range_with_len}
+use Rattle.std.specs.Prelude.{ℕ, ◌+◌, ◌-◌, ◌*◌, ◌%◌, ◌^◌, List, [], ◌∷◌, ◌++◌, ◌/◌, ◌<◌, ◌≡◌, ◌⊎◌, if◌then◌else◌, nat_le, ◌==◌, eqb, map, bit_and, bit_or}
+use Rattle.std.specs.List.{AllByRecursion, IsDistinct, Contains, flat_map, fold, range_with_len}
 use Rattle.m386_base.specs.declared.ask.Space.{Space}
 use Rattle.m386_base.specs.declared.ask.Space.TheVariants.{Memory, Port}
 use Rattle.m386_base.specs.declared.split.Piece.{Piece}
@@ -83,3 +83,41 @@ pub record IsAccess (space : Space) (addr len : ℕ) (ps : List Piece) : Type 0 
   pub groups : AreGroups space ps
   pub apart : IsDistinct eqb (map (λ (p : Piece). p.addr) ps)
   pub bytes : flat_map piece_bytes ps ≡ access_bytes space addr len
+
+-- byte k of a number, the lowest first
+abbrev pub byte : ℕ → ℕ → ℕ
+byte value k = value / 2 ^ (8 * k) % 256
+
+-- the number that has for each of these pairs byte b.0 of a value as its byte b.1, and 0 elsewhere
+abbrev pub moved : List (ℕ × ℕ) → ℕ → ℕ
+moved [] value = 0
+moved (b ∷ bs) value = byte value b.0 * 2 ^ (8 * b.1) + moved bs value
+
+-- the same pairs the other way round
+abbrev pub swapped : List (ℕ × ℕ) → List (ℕ × ℕ)
+swapped bs = map (λ (b : ℕ × ℕ). (b.1, b.0)) bs
+
+-- a group of some access
+pub record IsPiece (p : Piece) : Type 0 where
+  pub space : Space
+  pub addr : ℕ
+  pub len : ℕ
+  pub length : IsLength len
+  pub stands : Contains (pieces space addr len) p
+
+-- the values of the groups of an access, taken together to the value of the access
+abbrev pub gathered : (Piece → ℕ) → List Piece → ℕ
+gathered read ps = fold (λ value p. bit_or value (gather_of p (read p))) 0 ps
+
+-- the number whose byte b.0 is what stands at place b.1, for each of these pairs
+abbrev pub placed : (ℕ → ℕ) → List (ℕ × ℕ) → ℕ
+placed stands [] = 0
+placed stands (b ∷ bs) = stands b.1 * 2 ^ (8 * b.0) + placed stands bs
+
+-- what is read of each of these groups are the bytes that stand at its places
+abbrev pub AreRead : (ℕ → ℕ) → (Piece → ℕ) → List Piece → Type 0
+AreRead stands read ps = AllByRecursion (λ p. AllByRecursion (λ (b : ℕ × ℕ). byte (read p) b.1 ≡ stands (p.addr + b.1)) (lanes p)) ps
+
+-- the bytes of a value at their places: what a write of it puts there
+abbrev pub written : ℕ → List (ℕ × ℕ) → List (ℕ × ℕ)
+written value bs = map (λ (b : ℕ × ℕ). (b.1, byte value b.0)) bs
