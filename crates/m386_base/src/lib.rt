@@ -11,3 +11,5 @@ pub mod list;
 pub mod number;
 pub mod probe;
 pub mod split;
+#[cfg(test)]
+mod tests;

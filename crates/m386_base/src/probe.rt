@@ -1,5 +1,5 @@
 //! A bus that answers listed values.
-ghost use Rattle.std.specs.Prelude.{◌≡◌, ◌<◌, ◌≤◌, true, false, length, ℕ, [], None};
+ghost use Rattle.std.specs.Prelude.{◌≡◌, ◌<◌, ◌≤◌, ◌↔◌, true, false, length, ℕ, [], None, IsSome};
 ghost use Rattle.std.specs.Option.{ForSome};
 ghost use Rattle.m386_base.specs.Bus.{IsAsk, IsAsk-prop};
 ghost use Rattle.m386_base.specs.Replay.{are_told};
@@ -28,6 +28,7 @@ pub struct ProbeBus<'a> {
     ghost lawful: { ForSome last IsAsk } by { Prim.hlevel IsAsk-prop },
     ghost opens: { length reads.now ≡ 0 → ForSome last (λ q. q.joined ≡ false) },
     ghost unkept: { length asks.items ≡ 0 → kept ≡ false },
+    ghost refused: { 0 < stops → IsSome first },
 }
 
 impl<'a> ProbeBus<'a> {
@@ -35,6 +36,7 @@ impl<'a> ProbeBus<'a> {
     #[tactic(auto, unfolding(crate::specs::Replay::are_told))]
     pub fn new(reads: &'a [u32]) -> ProbeBus<'a>
         requires { length reads.now ≤ 192 }
+        ensures first { result.first ≡ None }
         ensures free { result.kept ≡ false }
         ensures fresh { result.asks.items ≡ [] }
         ensures reads { result.reads.now ≡ reads.now }
@@ -52,7 +54,8 @@ impl<'a> ProbeBus<'a> {
 
     /// The first ask that it refused, and `None` exactly where it refused none.
     pub fn wanted(&self) -> Option<Ask>
-        ensures { result ≡ self.now.first }
+        ensures first { result ≡ self.now.first }
+        ensures none { result ≡ None ↔ (self.now.stops ≡ 0) }
     {
         self.first
     }
@@ -74,12 +77,21 @@ impl<'a> ProbeBus<'a> {
 }
 
 impl<'a> Bus for ProbeBus<'a> {
-    ghost use Rattle.std.specs.Prelude.{true};
+    ghost use Rattle.std.specs.Prelude.{◌≡◌, ◌↔◌, true, false, length, Some, IsErr, is_ok, if◌then◌else◌};
+    ghost use Rattle.std.specs.Option.{option_or};
+    ghost use Rattle.m386_base.specs.Bus.{Answers, IsAsk};
 
     ghost view = { λ b. record { cycles = b.asks.items; kept = b.kept; stops = b.stops; pauses = true; origin = b.reads.now; wanted = b.last } };
 
+    /// Makes one cycle. It pauses exactly where the listed values are used up, and keeps the first ask that it refused.
     #[tactic(auto, using(crate::proofs::Replays::probing, crate::proofs::Masks::and_twice))]
-    fn cycle(&mut self, ask: Ask, keep: bool) -> Result<u32, Stop> {
+    fn cycle(&mut self, ask: Ask, keep: bool) -> Result<u32, Stop>
+        requires lawful { IsAsk ask }
+        requires joined { ask.joined ≡ (⟦<ProbeBus<'a> as Bus>⟧.view self.old).kept }
+        ensures answers { Answers ask keep (⟦<ProbeBus<'a> as Bus>⟧.view self.old) (⟦<ProbeBus<'a> as Bus>⟧.view self.new) result }
+        ensures paused { IsErr result ↔ (length self.old.asks.items ≡ length self.old.reads.now) }
+        ensures first { self.new.first ≡ (if is_ok result then self.old.first else option_or self.old.first (Some ask)) }
+    {
         let made = self.asks.len();
         if made == self.reads.len() {
             self.kept = false;
@@ -100,7 +112,10 @@ impl<'a> Bus for ProbeBus<'a> {
         Ok(value)
     }
 
-    fn leave(&mut self) {
+    fn leave(&mut self)
+        ensures freed { ⟦<ProbeBus<'a> as Bus>⟧.view self.new ≡ record (⟦<ProbeBus<'a> as Bus>⟧.view self.old) { kept = false } }
+        ensures first { self.new.first ≡ self.old.first }
+    {
         self.kept = false;
     }
 }
