@@ -104,5 +104,5 @@ pub turn_made : (t : Turn) → t ≢ turns.PassedOver → t ≡ turns.Made
 turn_made turns.Made other = refl
 turn_made turns.PassedOver other = absurd (other refl)
 
-pub ok_same : {F : Type 0} (t : Turn) → ◌≡◌ {A = Result Turn F} (Ok turns.Made) (Ok turns.PassedOver) → ⊥
-ok_same t e = cc
+pub made_not_passed : {F : Type 0} → ◌≡◌ {A = Result Turn F} (Ok turns.Made) (Ok turns.PassedOver) → ⊥
+made_not_passed e = cc

@@ -5,4 +5,6 @@ pub mod Keeping
 pub mod Lengths
 pub mod Orders
 pub mod Places
+pub mod Runs
 pub mod Seats
+pub mod Turning

@@ -3,13 +3,13 @@ use Rattle.m386_base.specs.declared.fault.NoMemory.{NoMemory}
 use Rattle.m386_core.specs.declared.turn.Turn.{Turn}
 use Rattle.m386_core.specs.declared.turn.Turn.TheVariants as turns
 use Rattle.m386_core.specs.Machine.{HasAmidGroup, MakesCycle, PassesOver}
-use Rattle.m386_core.proofs.Groups.{GroupSoFar, group_one, group_more, amid_not_passed, room_shrinks, turn_made, ok_same}
+use Rattle.m386_core.proofs.Groups.{GroupSoFar, group_one, group_more, amid_not_passed, room_shrinks, turn_made, made_not_passed}
 use Rattle.m386_core.proofs.machine.Machine.group.Goals as goal
 
 pub loop-self-init : goal.loop-self-init
 loop-self-init c =
     let t : c.in_ok-next.field-0 ≡ turns.Made = turn_made c.in_ok-next.field-0 (search rules) in
-    group_one c.args.cpu c.args.self.now c.next.new.self (λ h. ok_same turns.Made (sym (ap Ok t) ∙ c.in_ok-next.ensures.passed.1 h)) (c.in_ok-next.ensures.made (ap Ok t)) c.in_ok-next.ensures.kept
+    group_one c.args.cpu c.args.self.now c.next.new.self (λ h. made_not_passed (sym (ap Ok t) ∙ c.in_ok-next.ensures.passed.1 h)) (c.in_ok-next.ensures.made (ap Ok t)) c.in_ok-next.ensures.kept
 
 pub loop-self-smaller : goal.loop-self-smaller
 loop-self-smaller c =

@@ -1,0 +1,130 @@
+-- The loops of a run, turn by turn.
+use Rattle.std.proofs.Common.{◌≡◌, ◌≢◌, ℕ, ◌+◌, ◌/◌, ◌%◌, ◌^◌, ◌<◌, ◌≤◌, Bool, true, false, cond, ltb, List, [], ◌∷◌, length, drop, filter, get_or, refl, sym, ap, subst, ◌∙◌, arith, add-zero, add_assoc}
+use Rattle.std.proofs.Math.Nat.{mod-eq_of_lt}
+use Rattle.std.proofs.lemmas.Bool.{lt-ltb, le-ltb}
+use Rattle.std.proofs.lemmas.List.{at_drop_more, drop_all}
+use Rattle.m386_core.specs.declared.turn.Turn.{Turn}
+use Rattle.m386_core.specs.declared.turn.Turn.TheVariants as turns
+use Rattle.m386_core.specs.declared.order.Order.{Order}
+use Rattle.m386_core.specs.Machine.{MachineView, IsMachine, PassesOver, MakesCycle}
+use Rattle.m386_core.specs.Order.{Naming, Turns, Listed, Drawn, listed, named, passed, followed, draw_of}
+use Rattle.m386_core.specs.Running.{Stands, Rises, GoesOn}
+use Rattle.m386_core.proofs.Orders.{goes_nowhere, goes_then, goes_cycle, turns_rise, drawn_rise, stands_passed, stands_made}
+
+-- what a turn that made a cycle says of an order
+abbrev pub TakesTurn : ℕ → ℕ → MachineView → MachineView → Type 0
+TakesTurn first made old new = (order : Order) (a : ℕ) (f : ℕ → Naming) → first ≡ a % old.cpus → Rises old.cpus a f → Stands order old (f 0) → (i : ℕ) × (made ≡ (a + i) % old.cpus) × Stands order new (followed (f i))
+
+-- what one that failed says of it
+abbrev pub LosesTurn : ℕ → MachineView → MachineView → Type 0
+LosesTurn first old new = (order : Order) (a : ℕ) (f : ℕ → Naming) → first ≡ a % old.cpus → Rises old.cpus a f → Stands order old (f 0) → (i : ℕ) × Stands order new (f i)
+
+-- ---- in turn
+
+pub record TurnsRun (old now : MachineView) (number : ℕ) : Type 0 where
+  pub goes : GoesOn old now
+  pub below : number < old.cpus
+  pub order : (order : Order) → Stands order old (Turns 0) → (n : ℕ) × (number ≡ n % old.cpus) × Stands order now (Turns n)
+
+pub turns_begin : (m : MachineView) → IsMachine m → TurnsRun m m 0
+turns_begin m k = record {
+  goes = goes_nowhere m k;
+  below = omega (arith, k.some);
+  order = λ order s. (0, sym (let lt : 0 < m.cpus = omega (arith, k.some) in mod-eq_of_lt lt), s);
+}
+
+pub turns_next : (old now new : MachineView) (number made next : ℕ) → TurnsRun old now number → GoesOn now new → TakesTurn number made now new → next < old.cpus → ((a : ℕ) → made ≡ a % old.cpus → next ≡ (a + 1) % old.cpus) → TurnsRun old new next
+turns_next old now new number made next t goes turn below follows = record {
+  goes = goes_then old now new t.goes goes;
+  below = below;
+  order = λ order s. (
+    let so = t.order order s in
+    let first : number ≡ so.0 % now.cpus = rw t.goes.same.cpus so.1 in
+    let here : Stands order now (Turns (so.0 + 0)) = rw add-zero so.2 in
+    let r = turn order so.0 (λ i. Turns (so.0 + i)) first (turns_rise now.cpus so.0) here in
+    let by : made ≡ (so.0 + r.0) % old.cpus = r.1 ∙ ap (λ (c : ℕ). (so.0 + r.0) % c) t.goes.same.cpus in
+    (so.0 + r.0 + 1, follows (so.0 + r.0) by, r.2));
+}
+
+pub turns_lost : (old now new : MachineView) (number : ℕ) → TurnsRun old now number → LosesTurn number now new → (order : Order) → Stands order old (Turns 0) → (s : Naming) × Stands order new s
+turns_lost old now new number t lost order s =
+    let so = t.order order s in
+    let first : number ≡ so.0 % now.cpus = rw t.goes.same.cpus so.1 in
+    let here : Stands order now (Turns (so.0 + 0)) = rw add-zero so.2 in
+    let r = lost order so.0 (λ i. Turns (so.0 + i)) first (turns_rise now.cpus so.0) here in
+    (Turns (so.0 + r.0), r.1)
+
+-- ---- by numbers that are drawn
+
+pub record DrawnRun (seed : ℕ) (old now : MachineView) (x : ℕ) : Type 0 where
+  pub goes : GoesOn old now
+  pub order : (order : Order) → Stands order old (Drawn (draw_of seed) 0) → Stands order now (Drawn (draw_of x) 0)
+
+pub drawn_begin : (seed : ℕ) (m : MachineView) → IsMachine m → DrawnRun seed m m seed
+drawn_begin seed m k = record { goes = goes_nowhere m k; order = λ order s. s }
+
+pub drawn_next : (seed : ℕ) (old now new : MachineView) (x y first made : ℕ) → DrawnRun seed old now x → y ≡ draw_of x → first ≡ (y / 2 ^ 33) % now.cpus → GoesOn now new → TakesTurn first made now new → DrawnRun seed old new y
+drawn_next seed old now new x y first made t e first_is goes turn = record {
+  goes = goes_then old now new t.goes goes;
+  order = λ order s. (
+    let here : Stands order now (Drawn y 0) = rw e (t.order order s) in
+    (turn order (y / 2 ^ 33) (λ i. Drawn y i) first_is (drawn_rise now.cpus y) here).2);
+}
+
+pub drawn_lost : (seed : ℕ) (old now new : MachineView) (x y first : ℕ) → DrawnRun seed old now x → y ≡ draw_of x → first ≡ (y / 2 ^ 33) % now.cpus → LosesTurn first now new → (order : Order) → Stands order old (Drawn (draw_of seed) 0) → (s : Naming) × Stands order new s
+drawn_lost seed old now new x y first t e first_is lost order s =
+    let here : Stands order now (Drawn y 0) = rw e (t.order order s) in
+    let r = lost order (y / 2 ^ 33) (λ i. Drawn y i) first_is (drawn_rise now.cpus y) here in
+    (Drawn y r.0, r.1)
+
+-- ---- by a list
+
+-- the members below the count
+abbrev pub within : ℕ → List ℕ → List ℕ
+within c members = filter (λ p. ltb p c) members
+
+pub record ListedRun (members : List ℕ) (old now : MachineView) (i : ℕ) : Type 0 where
+  pub goes : GoesOn old now
+  pub order : (order : Order) → Stands order old (listed (within old.cpus members)) → Stands order now (listed (within old.cpus (drop i members)))
+
+pub listed_begin : (members : List ℕ) (m : MachineView) → IsMachine m → ListedRun members m m 0
+listed_begin members m k = record { goes = goes_nowhere m k; order = λ order s. s }
+
+within_other : (c p : ℕ) (rest : List ℕ) → c ≤ p → within c (p ∷ rest) ≡ within c rest
+within_other c p rest le = rw (le-ltb p c le) refl
+
+within_one : (c p : ℕ) (rest : List ℕ) → p < c → within c (p ∷ rest) ≡ p ∷ within c rest
+within_one c p rest lt = rw (lt-ltb p c lt) refl
+
+pub listed_skips : (members : List ℕ) (old now : MachineView) (i : ℕ) → i < length members → ListedRun members old now i → old.cpus ≤ get_or members i 0 → ListedRun members old now (i + 1)
+listed_skips members old now i lt t le =
+    let e : listed (within old.cpus (drop i members)) ≡ listed (within old.cpus (drop (i + 1) members)) = at_drop_more (λ (xs : List ℕ). listed (within old.cpus xs)) members i 0 lt ∙ ap listed (within_other old.cpus (get_or members i 0) (drop (i + 1) members) le) in
+    record { goes = t.goes; order = λ order s. rw e at (t.order order s) }
+
+-- the order stands at the next member
+at_member : (members : List ℕ) (old now : MachineView) (i : ℕ) → i < length members → ListedRun members old now i → get_or members i 0 < old.cpus → (order : Order) → Stands order old (listed (within old.cpus members)) → Stands order now (Listed (get_or members i 0) (within old.cpus (drop (i + 1) members)))
+at_member members old now i lt t below order s =
+    let e : listed (within old.cpus (drop i members)) ≡ Listed (get_or members i 0) (within old.cpus (drop (i + 1) members)) = at_drop_more (λ (xs : List ℕ). listed (within old.cpus xs)) members i 0 lt ∙ ap listed (within_one old.cpus (get_or members i 0) (drop (i + 1) members) below) in
+    rw e at (t.order order s)
+
+pub listed_passes : (members : List ℕ) (old now new : MachineView) (i : ℕ) → i < length members → ListedRun members old now i → get_or members i 0 < old.cpus → new ≡ now → PassesOver now (get_or members i 0) → ListedRun members old new (i + 1)
+listed_passes members old now new i lt t below same over = rw same (record {
+  goes = t.goes;
+  order = λ order s. stands_passed now.image now.cpus now.budget order now.log.cycles (Listed (get_or members i 0) (within old.cpus (drop (i + 1) members))) (at_member members old now i lt t below order s) over;
+})
+
+pub listed_makes : (members : List ℕ) (old now new : MachineView) (i : ℕ) → i < length members → ListedRun members old now i → get_or members i 0 < old.cpus → MakesCycle (get_or members i 0) now new → IsMachine new → (PassesOver now (get_or members i 0) → ⊥) → ListedRun members old new (i + 1)
+listed_makes members old now new i lt t below makes k lives = record {
+  goes = goes_then old now new t.goes (goes_cycle (get_or members i 0) now new makes k);
+  order = λ order s. stands_made order (get_or members i 0) now new (Listed (get_or members i 0) (within old.cpus (drop (i + 1) members))) makes (at_member members old now i lt t below order s) lives refl;
+}
+
+-- either way
+pub listed_next : (members : List ℕ) (old now new : MachineView) (i : ℕ) (t : Turn) → i < length members → ListedRun members old now i → get_or members i 0 < old.cpus → (t ≡ turns.PassedOver → (new ≡ now) × PassesOver now (get_or members i 0)) → (t ≡ turns.Made → MakesCycle (get_or members i 0) now new × IsMachine new × (PassesOver now (get_or members i 0) → ⊥)) → ListedRun members old new (i + 1)
+listed_next members old now new i turns.PassedOver lt l below passed made = listed_passes members old now new i lt l below (passed refl).0 (passed refl).1
+listed_next members old now new i turns.Made lt l below passed made = listed_makes members old now new i lt l below (made refl).0 (made refl).1 (made refl).2
+
+pub listed_all : (members : List ℕ) (old now : MachineView) (i : ℕ) → length members ≤ i → ListedRun members old now i → (order : Order) → Stands order old (listed (within old.cpus members)) → Stands order now (Turns 0)
+listed_all members old now i le t order s =
+    let e : listed (within old.cpus (drop i members)) ≡ Turns 0 = ap (λ (xs : List ℕ). listed (within old.cpus xs)) (drop_all i members le) in
+    rw e at (t.order order s)
