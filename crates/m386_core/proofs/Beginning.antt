@@ -1,20 +1,18 @@
 -- What holds of a machine that has made no cycle yet.
-use Rattle.std.proofs.Common.{◌≡◌, ◌≢◌, ℕ, ◌+◌, ◌<◌, ◌≤◌, true, false, List, [], ◌∷◌, ◌++◌, length, get_or, refl, sym, ap, subst, ◌∙◌, arith, inl, inr, Option, Some, None, ◌⊎◌}
+use Rattle.std.proofs.Common.{◌≡◌, ℕ, ◌+◌, ◌<◌, ◌≤◌, true, false, List, [], ◌∷◌, ◌++◌, length, get_or, refl, sym, ap, subst, ◌∙◌, arith, inl, inr, Option, Some, None, ◌⊎◌}
 use Rattle.std.specs.Option.{ForSome}
-use Rattle.std.proofs.lemmas.Bool.{cases_lt}
 use Rattle.std.proofs.lemmas.List.{length-append, get_or_append_left, get_or-append-add}
 use Rattle.m386_base.specs.declared.ask.Ask.{Ask}
 use Rattle.m386_image.specs.declared.image.Image.{Image}
 use Rattle.m386_image.specs.Format.{IsValid}
 use Rattle.m386_memory.specs.Contents.{Contents}
-use Rattle.m386_memory.specs.History.{IsHistory}
 use Rattle.m386_memory.specs.declared.ended.ProcEnd.{ProcEnd}
 use Rattle.m386_memory.proofs.Histories.{IsRecord-empty}
 use Rattle.m386_state.specs.declared.proc.Proc.{Proc}
 use Rattle.m386_step.specs.Run.{start_of, BeginsWith}
 use Rattle.m386_step.specs.Steps.{Steps}
 use Rattle.m386_core.specs.declared.seat.Seat.{Seat}
-use Rattle.m386_core.specs.Kept.{AreSeated, IsAmid, IsKept}
+use Rattle.m386_core.specs.Kept.{AreSeated, IsKept}
 use Rattle.m386_core.specs.Seat.{IsSeated, is_joined}
 
 -- the processors below k are seated, and ask for no joined cycle

@@ -1,5 +1,5 @@
 -- A locked group, cycle by cycle.
-use Rattle.std.proofs.Common.{◌≡◌, ◌≢◌, ℕ, ◌+◌, ◌*◌, ◌-◌, ◌<◌, ◌≤◌, Bool, true, false, List, [], ◌∷◌, ◌++◌, length, refl, sym, ap, subst, ◌∙◌, append_assoc, arith, inl, inr, ◌⊎◌, Result, Ok}
+use Rattle.std.proofs.Common.{◌≡◌, ◌≢◌, ℕ, ◌+◌, ◌*◌, ◌-◌, ◌<◌, ◌≤◌, true, List, [], ◌∷◌, ◌++◌, length, refl, sym, ap, ◌∙◌, append_assoc, arith, inl, inr, Result, Ok}
 use Rattle.std.specs.List.{AllByRecursion}
 use Rattle.std.proofs.lemmas.Bool.{cases_eq}
 use Rattle.std.proofs.lemmas.List.{length-append}
@@ -13,7 +13,7 @@ use Rattle.m386_step.specs.Run.{start_of, plan_of}
 use Rattle.m386_core.specs.declared.turn.Turn.{Turn}
 use Rattle.m386_core.specs.declared.turn.Turn.TheVariants as turns
 use Rattle.m386_core.specs.Machine.{MachineView, IsMachine, SameMachine, PassesOver, HasAmidGroup, MakesCycle, MakesGroup}
-use Rattle.m386_core.specs.Place.{Amid, WaitsAs, Awaits, HasFinished, IsAmidGroup, IsPassedOver}
+use Rattle.m386_core.specs.Place.{Awaits, HasFinished}
 use Rattle.m386_core.proofs.Lengths.{front_length}
 use Rattle.m386_core.proofs.Places.{amid_not_finished, amid_same}
 
@@ -52,15 +52,15 @@ pub record GroupSoFar (cpu : ℕ) (old now : MachineView) : Type 0 where
 -- a processor that has just made a cycle is the only one that may be amid a group
 alone_after : (cpu : ℕ) (old now : MachineView) → MakesCycle cpu old now → ((q : ℕ) → q ≢ cpu → HasAmidGroup old q → ⊥) → (q : ℕ) → HasAmidGroup now q → q ≡ cpu
 alone_after cpu old now s none q h = elim (cases_eq q cpu) [
-    | inl e ↦ e
-    | inr other ↦
-        let x : Cycle = record { cpu = cpu; ask = cycle_of s.asked s.value } in
-        let a = h.1.0 in
-        let grown : Awaits old.image old.budget (old.log.cycles ++ x ∷ []) q a = rw (s.same.image, s.same.budget, s.cycles) at h.1.1 in
-        let before : Awaits old.image old.budget old.log.cycles q a = awaits_other old.image old.budget old.log.cycles q a x (λ e. other (sym e)) grown in
-        let below : q < old.cpus = rw s.same.cpus at h.0 in
-        absurd (none q other (below, (a, before, h.1.2)))
-  ]
+  | inl e ↦ e
+  | inr other ↦
+      let x : Cycle = record { cpu = cpu; ask = cycle_of s.asked s.value } in
+      let a = h.1.0 in
+      let grown : Awaits old.image old.budget (old.log.cycles ++ x ∷ []) q a = rw (s.same.image, s.same.budget, s.cycles) at h.1.1 in
+      let before : Awaits old.image old.budget old.log.cycles q a = awaits_other old.image old.budget old.log.cycles q a x (λ e. other (sym e)) grown in
+      let below : q < old.cpus = rw s.same.cpus at h.0 in
+      absurd (none q other (below, (a, before, h.1.2)))
+]
 
 pub group_one : (cpu : ℕ) (old now : MachineView) → (PassesOver old cpu → ⊥) → MakesCycle cpu old now → IsMachine now → GroupSoFar cpu old now
 group_one cpu old now not_passed s m = record {

@@ -1,13 +1,12 @@
 -- What one more cycle makes of the parts of a machine.
-use Rattle.std.proofs.Common.{◌≡◌, ◌≢◌, ℕ, ◌+◌, ◌<◌, Bool, true, false, cond, List, [], ◌∷◌, ◌++◌, length, get_or, set, refl, sym, ap, subst, ◌∙◌, arith, inl, inr, Option, Some, None}
+use Rattle.std.proofs.Common.{◌≡◌, ◌≢◌, ℕ, ◌<◌, Bool, true, false, cond, List, [], ◌∷◌, ◌++◌, length, get_or, set, refl, sym, ap, subst, ◌∙◌, arith, inl, inr, Option, Some, None}
 use Rattle.std.specs.List.{AllByRecursion}
 use Rattle.std.proofs.lemmas.Bool.{cases_eq}
 use Rattle.std.proofs.lemmas.List.{length-set, get_or-set_same, get_or-set_other}
-use Rattle.m386_base.specs.declared.ask.Ask.{Ask}
 use Rattle.m386_base.specs.declared.ask.Cycle.{Cycle}
 use Rattle.m386_image.specs.declared.image.Image.{Image}
 use Rattle.m386_memory.specs.Contents.{Contents}
-use Rattle.m386_memory.specs.History.{IsHistory, cycles_of, past, last_cpu}
+use Rattle.m386_memory.specs.History.{IsHistory, cycles_of}
 use Rattle.m386_memory.proofs.Histories.{cycles_of-own, cycles_of-other, last_cpu-push}
 use Rattle.m386_memory.specs.declared.ended.ProcEnd.{ProcEnd}
 use Rattle.m386_state.specs.declared.proc.Proc.{Proc}
@@ -23,18 +22,18 @@ below_more c (y ∷ H) x h lt = (h.0, below_more c H x h.1 lt)
 seated_more : (I : Image) (c n : ℕ) (H : List Cycle) (E : List (ProcEnd Proc)) (seats : List Seat) (cpu : ℕ) (x : Cycle) (e2 : ProcEnd Proc) (t2 : Seat) → length E ≡ c → length seats ≡ c → cpu < c → x.cpu ≡ cpu → AreSeated I n H E seats c → IsSeated n (start_of I cpu) (cycles_of cpu H ++ x.ask ∷ []) e2 t2.answers.items t2.next
     → AreSeated I n (H ++ x ∷ []) (set E cpu e2) (set seats cpu t2) c
 seated_more I c n H E seats cpu x e2 t2 count count_seats lt by h new p e t below = elim (cases_eq p cpu) [
-    | inl is ↦
-        let P : ℕ → Type 0 = λ q. IsSeated n (start_of I q) (cycles_of q (H ++ x ∷ [])) (get_or (set E cpu e2) q e) (get_or (set seats cpu t2) q t).answers.items (get_or (set seats cpu t2) q t).next in
-        let own : IsSeated n (start_of I cpu) (cycles_of cpu (H ++ x ∷ [])) e2 t2.answers.items t2.next = rw (cycles_of-own cpu H x by) new in
-        let state : get_or (set E cpu e2) cpu e ≡ e2 = get_or-set_same E cpu e2 e (omega arith) in
-        let seat : get_or (set seats cpu t2) cpu t ≡ t2 = get_or-set_same seats cpu t2 t (omega arith) in
-        subst P (sym is) (rw (state, seat) own)
-    | inr other ↦
-        let different : x.cpu ≢ p = λ e. other (sym e ∙ by) in
-        let state : get_or (set E cpu e2) p e ≡ get_or E p e = get_or-set_other E cpu p e2 e other in
-        let seat : get_or (set seats cpu t2) p t ≡ get_or seats p t = get_or-set_other seats cpu p t2 t other in
-        rw (cycles_of-other p H x different, state, seat) (h p e t below)
-  ]
+  | inl is ↦
+      let P : ℕ → Type 0 = λ q. IsSeated n (start_of I q) (cycles_of q (H ++ x ∷ [])) (get_or (set E cpu e2) q e) (get_or (set seats cpu t2) q t).answers.items (get_or (set seats cpu t2) q t).next in
+      let own : IsSeated n (start_of I cpu) (cycles_of cpu (H ++ x ∷ [])) e2 t2.answers.items t2.next = rw (cycles_of-own cpu H x by) new in
+      let state : get_or (set E cpu e2) cpu e ≡ e2 = get_or-set_same E cpu e2 e (omega arith) in
+      let seat : get_or (set seats cpu t2) cpu t ≡ t2 = get_or-set_same seats cpu t2 t (omega arith) in
+      subst P (sym is) (rw (state, seat) own)
+  | inr other ↦
+      let different : x.cpu ≢ p = λ e. other (sym e ∙ by) in
+      let state : get_or (set E cpu e2) p e ≡ get_or E p e = get_or-set_other E cpu p e2 e other in
+      let seat : get_or (set seats cpu t2) p t ≡ get_or seats p t = get_or-set_other seats cpu p t2 t other in
+      rw (cycles_of-other p H x different, state, seat) (h p e t below)
+]
 
 -- who is named is the processor, where its next ask is joined
 named_is : (b : Bool) (cpu p : ℕ) → cond b (Some cpu) None ≡ Some p → p ≡ cpu

@@ -1,26 +1,25 @@
 -- What the parts of a machine say of its processors, and what one more cycle makes of them.
-use Rattle.std.proofs.Common.{◌≡◌, ◌≢◌, ℕ, zero, suc, ◌+◌, ◌<◌, ◌≤◌, Bool, true, false, cond, eqb, List, [], ◌∷◌, ◌++◌, length, get_or, set, refl, sym, ap, subst, ◌∙◌, arith, inl, inr, Option, Some, None, ◌⊎◌, Result, Ok, Err}
+use Rattle.std.proofs.Common.{◌≡◌, ◌≢◌, ℕ, zero, suc, ◌<◌, true, false, List, [], ◌∷◌, length, get_or, refl, sym, ap, subst, ◌∙◌, arith, inl, inr, Option, Some, None, Result, Ok, Err}
 use Rattle.std.specs.Option.{is_some}
 use Rattle.std.specs.Result.{IsErr}
-use Rattle.std.specs.List.{slice_get, AllByRecursion}
-use Rattle.std.proofs.lemmas.List.{length-set, get_or-set_same, get_or-set_other, get_or_default}
-use Rattle.std.proofs.lemmas.Option.{slice_get_within, get_or_from_slice_get, slice_get-get_or}
+use Rattle.std.specs.List.{slice_get}
+use Rattle.std.proofs.lemmas.List.{get_or_default}
+use Rattle.std.proofs.lemmas.Option.{slice_get_within, get_or_from_slice_get}
 use Rattle.m386_base.specs.declared.ask.Ask.{Ask}
 use Rattle.m386_base.specs.declared.ask.Cycle.{Cycle}
 use Rattle.m386_base.specs.Bus.{IsAsk}
 use Rattle.m386_image.specs.declared.image.Image.{Image}
 use Rattle.m386_image.specs.Format.{IsValid}
 use Rattle.m386_memory.specs.Contents.{Contents}
-use Rattle.m386_memory.specs.History.{IsHistory, cycles_of, past, last_cpu}
-use Rattle.m386_memory.proofs.Histories.{cycles_of-own, cycles_of-other, last_cpu-push}
+use Rattle.m386_memory.specs.History.{cycles_of, past, last_cpu}
 use Rattle.m386_memory.specs.declared.ended.ProcEnd.{ProcEnd}
 use Rattle.m386_state.specs.declared.proc.Proc.{Proc}
 use Rattle.m386_step.specs.Run.{start_of, plan_of}
-use Rattle.m386_step.specs.Steps.{Plan, Runs}
+use Rattle.m386_step.specs.Steps.{Runs}
 use Rattle.m386_core.specs.declared.seat.Seat.{Seat}
-use Rattle.m386_core.specs.Kept.{AreSeated, IsAmid, IsKept, is_another}
-use Rattle.m386_core.specs.Machine.{IsPlaced, IsFrontOfRun, IsMachine}
-use Rattle.m386_core.specs.Place.{Amid, HasFinishedAs, WaitsAs, HasFinished, IsAmidGroup, IsPassedOver}
+use Rattle.m386_core.specs.Kept.{IsKept, is_another}
+use Rattle.m386_core.specs.Machine.{IsPlaced, IsMachine}
+use Rattle.m386_core.specs.Place.{HasFinishedAs, WaitsAs, HasFinished, IsAmidGroup, IsPassedOver}
 use Rattle.m386_core.specs.Seat.{Waits, IsSeated, is_joined}
 use Rattle.m386_core.proofs.Places.{amid_after, amid_not_finished, amid_same, no_plan}
 

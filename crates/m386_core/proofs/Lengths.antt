@@ -1,13 +1,13 @@
 -- A run has no more cycles than its steps may have.
-use Rattle.std.proofs.Common.{◌≡◌, ◌≢◌, ℕ, zero, suc, ◌+◌, ◌*◌, ◌<◌, ◌≤◌, Bool, true, false, cond, eqb, ltb, List, [], ◌∷◌, ◌++◌, length, get_or, map, filter, refl, sym, ap, subst, ◌∙◌, arith, inl, inr, Some}
+use Rattle.std.proofs.Common.{◌≡◌, ◌≢◌, ℕ, zero, suc, ◌+◌, ◌*◌, ◌<◌, ◌≤◌, Bool, true, false, cond, eqb, ltb, List, [], ◌∷◌, length, map, filter, refl, ap, ◌∙◌, arith, inl, inr, Some}
 use Rattle.std.proofs.Math.Nat.{mul-suc}
-use Rattle.std.specs.List.{AllByRecursion, slice_get}
+use Rattle.std.specs.List.{AllByRecursion}
 use Rattle.std.proofs.lemmas.Bool.{cases_lt, lt-ltb, le-ltb}
 use Rattle.std.proofs.lemmas.Option.{slice_get-get_or}
 use Rattle.m386_base.specs.declared.ask.Ask.{Ask}
 use Rattle.m386_base.specs.declared.ask.Cycle.{Cycle}
 use Rattle.m386_base.specs.Laws.{AtMost}
-use Rattle.m386_base.specs.Phrase.{Phrase, Done, Faults, Asks, Begins, follow, Whole, Wants, Wrong, matches, answer_of}
+use Rattle.m386_base.specs.Phrase.{Phrase, Done, Faults, Asks, Begins, follow, Whole, Wrong, matches, answer_of}
 use Rattle.m386_base.proofs.Growth.{at_most_wants}
 use Rattle.m386_image.specs.declared.image.Image.{Image}
 use Rattle.m386_memory.specs.Contents.{Contents}
@@ -15,7 +15,7 @@ use Rattle.m386_memory.specs.History.{cycles_of}
 use Rattle.m386_memory.specs.declared.ended.ProcEnd.{ProcEnd}
 use Rattle.m386_state.specs.declared.proc.Proc.{Proc}
 use Rattle.m386_step.specs.Step.{step_phrase}
-use Rattle.m386_step.specs.Steps.{Plan, Steps, Runs, requested, planned}
+use Rattle.m386_step.specs.Steps.{Plan, Steps, requested, planned}
 use Rattle.m386_step.proofs.Short.{short_step}
 use Rattle.m386_core.specs.Machine.{IsPlaced, IsFrontOfRun}
 use Rattle.m386_core.specs.Place.{Amid}

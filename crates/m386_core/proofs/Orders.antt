@@ -1,15 +1,15 @@
 -- How an order goes on.
-use Rattle.std.proofs.Common.{◌≡◌, ◌≢◌, ℕ, zero, suc, ◌+◌, ◌-◌, ◌*◌, ◌/◌, ◌%◌, ◌^◌, ◌<◌, ◌≤◌, Bool, true, false, cond, ltb, List, [], ◌∷◌, ◌++◌, length, drop, filter, get_or, refl, sym, ap, subst, ◌∙◌, arith, inl, inr, ◌⊎◌, add-zero, add-one, drop-cons, append_assoc}
+use Rattle.std.proofs.Common.{◌≡◌, ◌≢◌, ℕ, suc, ◌+◌, ◌*◌, ◌/◌, ◌%◌, ◌^◌, ◌<◌, ◌≤◌, List, [], ◌∷◌, ◌++◌, refl, sym, ap, ◌∙◌, arith, inl, inr, ◌⊎◌, append_assoc}
 use Rattle.std.proofs.Math.Nat.{mod-eq_of_lt, mod_self, mod-add-div', add-mul-mod_self_right}
-use Rattle.std.proofs.lemmas.Bool.{cases_lt, cases_eq, lt-ltb, le-ltb}
-use Rattle.std.proofs.lemmas.List.{at_drop_more, append-nil}
+use Rattle.std.proofs.lemmas.Bool.{cases_lt, lt-ltb, le-ltb}
+use Rattle.std.proofs.lemmas.List.{append-nil}
 use Rattle.m386_base.specs.declared.ask.Cycle.{Cycle}
 use Rattle.m386_base.specs.Bus.{cycle_of}
 use Rattle.m386_image.specs.declared.image.Image.{Image}
 use Rattle.m386_core.specs.declared.order.Order.{Order}
-use Rattle.m386_core.specs.Machine.{MachineView, IsMachine, SameMachine, PassesOver, MakesCycle}
-use Rattle.m386_core.specs.Order.{Naming, Turns, Listed, Drawn, listed, draw_of, beginning, named, passed, followed, NamesTo, StandsAt, InOrder}
-use Rattle.m386_core.specs.Running.{Stands, Rises, gap, GoesOn}
+use Rattle.m386_core.specs.Machine.{MachineView, IsMachine, SameMachine, PassesOver, MakesCycle, GoesOn}
+use Rattle.m386_core.specs.Order.{Naming, Turns, Drawn, beginning, named, passed, followed, NamesTo, StandsAt}
+use Rattle.m386_core.specs.Running.{Stands, Rises, gap}
 use Rattle.m386_core.specs.Place.{IsPassedOver}
 
 pub stands_first : (I : Image) (c n : ℕ) (order : Order) (H : List Cycle) → H ≡ [] → StandsAt I c n order H (beginning c order)

@@ -1,15 +1,24 @@
 -- The loops of a run, turn by turn.
-use Rattle.std.proofs.Common.{◌≡◌, ◌≢◌, ℕ, ◌+◌, ◌/◌, ◌%◌, ◌^◌, ◌<◌, ◌≤◌, Bool, true, false, cond, ltb, List, [], ◌∷◌, length, drop, filter, get_or, refl, sym, ap, subst, ◌∙◌, arith, add-zero, add_assoc}
+use Rattle.std.proofs.Common.{◌≡◌, ℕ, ◌+◌, ◌/◌, ◌%◌, ◌^◌, ◌<◌, ◌≤◌, ltb, List, [], ◌∷◌, length, drop, filter, get_or, refl, sym, ap, ◌∙◌, arith, add-zero, inl, inr, Result, Ok, Err}
+use Rattle.std.specs.Result.{OnOk}
+use Rattle.std.proofs.lemmas.Option.{slice_get_within}
+use Rattle.m386_memory.specs.History.{cycles_of}
+use Rattle.m386_memory.specs.declared.ended.ProcEnd.{ProcEnd}
+use Rattle.m386_state.specs.declared.proc.Proc.{Proc}
+use Rattle.m386_step.specs.Run.{Run, start_of, plan_of}
+use Rattle.m386_step.specs.Steps.{Runs}
+use Rattle.m386_core.specs.Place.{HasFinished}
+use Rattle.m386_core.proofs.Groups.{awaits_not_finished}
 use Rattle.std.proofs.Math.Nat.{mod-eq_of_lt}
 use Rattle.std.proofs.lemmas.Bool.{lt-ltb, le-ltb}
 use Rattle.std.proofs.lemmas.List.{at_drop_more, drop_all}
 use Rattle.m386_core.specs.declared.turn.Turn.{Turn}
 use Rattle.m386_core.specs.declared.turn.Turn.TheVariants as turns
 use Rattle.m386_core.specs.declared.order.Order.{Order}
-use Rattle.m386_core.specs.Machine.{MachineView, IsMachine, PassesOver, MakesCycle}
-use Rattle.m386_core.specs.Order.{Naming, Turns, Listed, Drawn, listed, named, passed, followed, draw_of}
-use Rattle.m386_core.specs.Running.{Stands, Rises, GoesOn}
-use Rattle.m386_core.proofs.Orders.{goes_nowhere, goes_then, goes_cycle, turns_rise, drawn_rise, stands_passed, stands_made}
+use Rattle.m386_core.specs.Machine.{MachineView, IsPlaced, IsMachine, PassesOver, MakesCycle, GoesOn}
+use Rattle.m386_core.specs.Order.{Naming, beginning, Turns, Listed, Drawn, listed, passed, followed, draw_of}
+use Rattle.m386_core.specs.Running.{Stands, Rises, IsOver}
+use Rattle.m386_core.proofs.Orders.{stands_first, goes_nowhere, goes_then, goes_cycle, turns_rise, drawn_rise, stands_passed, stands_made}
 
 -- what a turn that made a cycle says of an order
 abbrev pub TakesTurn : ℕ → ℕ → MachineView → MachineView → Type 0
@@ -38,12 +47,12 @@ turns_next old now new number made next t goes turn below follows = record {
   goes = goes_then old now new t.goes goes;
   below = below;
   order = λ order s. (
-    let so = t.order order s in
-    let first : number ≡ so.0 % now.cpus = rw t.goes.same.cpus so.1 in
-    let here : Stands order now (Turns (so.0 + 0)) = rw add-zero so.2 in
-    let r = turn order so.0 (λ i. Turns (so.0 + i)) first (turns_rise now.cpus so.0) here in
-    let by : made ≡ (so.0 + r.0) % old.cpus = r.1 ∙ ap (λ (c : ℕ). (so.0 + r.0) % c) t.goes.same.cpus in
-    (so.0 + r.0 + 1, follows (so.0 + r.0) by, r.2));
+      let so = t.order order s in
+      let first : number ≡ so.0 % now.cpus = rw t.goes.same.cpus so.1 in
+      let here : Stands order now (Turns (so.0 + 0)) = rw add-zero so.2 in
+      let r = turn order so.0 (λ i. Turns (so.0 + i)) first (turns_rise now.cpus so.0) here in
+      let by : made ≡ (so.0 + r.0) % old.cpus = r.1 ∙ ap (λ (c : ℕ). (so.0 + r.0) % c) t.goes.same.cpus in
+      (so.0 + r.0 + 1, follows (so.0 + r.0) by, r.2));
 }
 
 pub turns_lost : (old now new : MachineView) (number : ℕ) → TurnsRun old now number → LosesTurn number now new → (order : Order) → Stands order old (Turns 0) → (s : Naming) × Stands order new s
@@ -67,8 +76,8 @@ pub drawn_next : (seed : ℕ) (old now new : MachineView) (x y first made : ℕ)
 drawn_next seed old now new x y first made t e first_is goes turn = record {
   goes = goes_then old now new t.goes goes;
   order = λ order s. (
-    let here : Stands order now (Drawn y 0) = rw e (t.order order s) in
-    (turn order (y / 2 ^ 33) (λ i. Drawn y i) first_is (drawn_rise now.cpus y) here).2);
+      let here : Stands order now (Drawn y 0) = rw e (t.order order s) in
+      (turn order (y / 2 ^ 33) (λ i. Drawn y i) first_is (drawn_rise now.cpus y) here).2);
 }
 
 pub drawn_lost : (seed : ℕ) (old now new : MachineView) (x y first : ℕ) → DrawnRun seed old now x → y ≡ draw_of x → first ≡ (y / 2 ^ 33) % now.cpus → LosesTurn first now new → (order : Order) → Stands order old (Drawn (draw_of seed) 0) → (s : Naming) × Stands order new s
@@ -128,3 +137,29 @@ pub listed_all : (members : List ℕ) (old now : MachineView) (i : ℕ) → leng
 listed_all members old now i le t order s =
     let e : listed (within old.cpus (drop i members)) ≡ Turns 0 = ap (λ (xs : List ℕ). listed (within old.cpus xs)) (drop_all i members le) in
     rw e at (t.order order s)
+
+-- ---- the end
+
+-- a front of a run in which all have finished is a run
+pub over_is_run : (m : MachineView) → IsMachine m → IsOver m → Run m.image m.cpus m.budget m.log.cycles m.ends
+over_is_run m k over = record {
+  below = k.front.below;
+  first = m.log.first;
+  begins = k.front.begins;
+  history = k.front.history;
+  count = k.front.count;
+  walks = λ p e is. go p e (over p (omega (arith, k.front.count, slice_get_within m.ends p e is))) (k.front.places p e is);
+}
+  where
+    go : (p : ℕ) (e : ProcEnd Proc) → HasFinished m.image m.budget m.log.cycles p → IsPlaced m.image m.budget m.log.cycles p e → Runs (plan_of m.image p) m.budget (start_of m.image p) (cycles_of p m.log.cycles) e.after e.steps
+    go p e f (inl r) = r
+    go p e f (inr w) = absurd (awaits_not_finished m.image m.budget m.log.cycles p w.0 (e, w.1) f)
+
+-- a run that may be ended in any way
+pub run_on : {F : Type 0} (r : Result (Unit {0}) F) (m : MachineView) → IsMachine m → OnOk r (IsOver m) → OnOk r (Run m.image m.cpus m.budget m.log.cycles m.ends)
+run_on (Ok u) m k over = over_is_run m k over
+run_on (Err e) m k over = tt
+
+-- an order that stands somewhere after a history
+pub begins_order : (order : Order) (m : MachineView) → m.log.cycles ≡ [] → Stands order m (beginning m.cpus order)
+begins_order order m none = stands_first m.image m.cpus m.budget order m.log.cycles none

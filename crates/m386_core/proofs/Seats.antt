@@ -1,10 +1,9 @@
 -- What a probe says of the cycles of a step, and what follows for the processor that made them.
-use Rattle.std.proofs.Common.{◌≡◌, ◌≢◌, ℕ, zero, suc, ◌+◌, ◌<◌, ◌≤◌, true, List, [], ◌∷◌, ◌++◌, length, refl, sym, ap, subst, ◌∙◌, append_assoc, append-nil, add-one, arith, inl, inr, Option, Some, None, bit_and, cond, false, Bool}
+use Rattle.std.proofs.Common.{◌≡◌, ◌≢◌, ℕ, ◌+◌, ◌<◌, true, List, [], ◌∷◌, ◌++◌, length, refl, sym, ap, ◌∙◌, append_assoc, append-nil, add-one, arith, bit_and, cond, false, Bool}
 use Rattle.std.proofs.lemmas.List.{length-append}
 use Rattle.m386_base.specs.declared.ask.Ask.{Ask}
 use Rattle.m386_base.specs.Bus.{IsAsk, IsEnabled, cycle_of, mask}
-use Rattle.m386_base.specs.Laws.{Sound}
-use Rattle.m386_base.specs.Phrase.{Phrase, Judgement, follow, Whole, Faulted, Wants, Wrong, answer_of}
+use Rattle.m386_base.specs.Phrase.{Judgement, Whole, Faulted, Wants, Wrong, answer_of}
 use Rattle.m386_base.specs.Replay.{AreTold, replay, answer_told, Found, Lacks}
 use Rattle.m386_base.proofs.Bounds.{sound_never}
 use Rattle.m386_base.proofs.Growth.{IsExact, exact_none, exact_more, at_most_wants}
@@ -17,10 +16,10 @@ use Rattle.m386_step.specs.declared.answer.Probe.{Probe}
 use Rattle.m386_step.specs.declared.answer.Probe.TheVariants as probes
 use Rattle.m386_step.specs.Probes.{Probes}
 use Rattle.m386_step.specs.Step.{step_phrase, Follow}
-use Rattle.m386_step.specs.Steps.{Steps, Runs}
+use Rattle.m386_step.specs.Steps.{Steps}
 use Rattle.m386_step.proofs.Short.{short_step, sound_step}
 use Rattle.m386_step.proofs.StepLists.{steps_more}
-use Rattle.m386_core.specs.Seat.{Waits, IsSeated}
+use Rattle.m386_core.specs.Seat.{Waits}
 
 -- the judgement that a probe tells
 abbrev pub judged : Probe → Judgement Proc

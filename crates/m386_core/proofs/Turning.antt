@@ -1,13 +1,13 @@
 -- A turn of an order: processors are passed over, and then one makes a cycle.
-use Rattle.std.proofs.Common.{◌≡◌, ◌≢◌, ℕ, ◌+◌, ◌%◌, ◌<◌, refl, sym, ap, subst, ◌∙◌, arith, add-zero, add_assoc, Result, Ok, Err}
+use Rattle.std.proofs.Common.{◌≡◌, ℕ, ◌+◌, ◌%◌, ◌<◌, refl, sym, ap, subst, ◌∙◌, add-zero, add_assoc, Result, Ok, Err}
 use Rattle.std.specs.Result.{IsErr, MatchResult}
 use Rattle.m386_core.specs.declared.turn.Turn.{Turn}
 use Rattle.m386_core.specs.declared.turn.Turn.TheVariants as turns
 use Rattle.m386_core.specs.declared.order.Order.{Order}
-use Rattle.m386_core.specs.Machine.{MachineView, IsMachine, PassesOver, MakesCycle}
+use Rattle.m386_core.specs.Machine.{MachineView, PassesOver, MakesCycle}
 use Rattle.m386_core.specs.Order.{Naming, named, passed, followed}
 use Rattle.m386_core.specs.Place.{IsPassedOver}
-use Rattle.m386_core.specs.Running.{Stands, Rises, GoesOn}
+use Rattle.m386_core.specs.Running.{Stands, Rises}
 use Rattle.m386_core.proofs.Orders.{stands_passed, stands_made}
 
 -- how far the naming has come without a cycle
@@ -28,11 +28,11 @@ turn_passes first old now new number next t same over lt follows =
       unchanged = same ∙ t.unchanged;
       below = subst (λ (m : MachineView). next < m.cpus) t.unchanged lt;
       order = λ order a f e r s. (
-        let so = t.order order a f e r s in
-        let named_is : named old.cpus (f so.0) ≡ number = r.names so.0 ∙ sym so.1 in
-        let over_named : IsPassedOver old.image old.cpus old.budget old.log.cycles (named old.cpus (f so.0)) = rw named_is over_old in
-        let on : Stands order old (passed (f so.0)) = stands_passed old.image old.cpus old.budget order old.log.cycles (f so.0) so.2 over_named in
-        (so.0 + 1, follows_old (a + so.0) so.1 ∙ ap (λ (x : ℕ). x % old.cpus) (add_assoc a so.0 1), rw r.step at on));
+          let so = t.order order a f e r s in
+          let named_is : named old.cpus (f so.0) ≡ number = r.names so.0 ∙ sym so.1 in
+          let over_named : IsPassedOver old.image old.cpus old.budget old.log.cycles (named old.cpus (f so.0)) = rw named_is over_old in
+          let on : Stands order old (passed (f so.0)) = stands_passed old.image old.cpus old.budget order old.log.cycles (f so.0) so.2 over_named in
+          (so.0 + 1, follows_old (a + so.0) so.1 ∙ ap (λ (x : ℕ). x % old.cpus) (add_assoc a so.0 1), rw r.step at on));
     }
 
 -- one makes a cycle

@@ -76,3 +76,10 @@ pub record MakesGroup (cpu : ℕ) (old new : MachineView) : Type 0 where
   pub by : first.cpu ≡ cpu
   pub joined : AllByRecursion (λ (x : Cycle). (x.cpu ≡ cpu) × (x.ask.joined ≡ true)) others
   pub cycles : new.log.cycles ≡ old.log.cycles ++ first ∷ others
+
+-- a machine after more cycles
+pub record GoesOn (old new : MachineView) : Type 0 where
+  pub same : SameMachine old new
+  pub more : List Cycle
+  pub cycles : new.log.cycles ≡ old.log.cycles ++ more
+  pub kept : IsMachine new

@@ -56,7 +56,7 @@ NamesTo I c n order zero H s = (H ≡ []) × (s ≡ beginning c order)
 NamesTo I c n order (suc k) H s = (before : Naming) × (
     (IsPassedOver I c n H (named c before) × (s ≡ passed before) × NamesTo I c n order k H before)
     ⊎ ((G : List Cycle) × (x : Cycle) × (H ≡ G ++ x ∷ []) × (¬ IsPassedOver I c n G (named c before)) × (x.cpu ≡ named c before)
-      × (s ≡ followed before) × NamesTo I c n order k G before))
+    × (s ≡ followed before) × NamesTo I c n order k G before))
 
 -- the order has named some processors, which gave the cycles of H, and stands at s
 abbrev pub StandsAt : Image → ℕ → ℕ → Order → List Cycle → Naming → Type 0

@@ -1,8 +1,7 @@
 -- What the loops of a run keep.
-use Rattle.std.specs.Prelude.{◌≡◌, ℕ, ◌+◌, ◌-◌, ◌%◌, ◌<◌, nat_lt, if◌then◌else◌, List, ◌++◌}
-use Rattle.m386_base.specs.declared.ask.Cycle.{Cycle}
+use Rattle.std.specs.Prelude.{◌≡◌, ℕ, ◌+◌, ◌-◌, ◌%◌, ◌<◌, nat_lt, if◌then◌else◌}
 use Rattle.m386_core.specs.declared.order.Order.{Order}
-use Rattle.m386_core.specs.Machine.{MachineView, IsMachine, SameMachine}
+use Rattle.m386_core.specs.Machine.{MachineView}
 use Rattle.m386_core.specs.Order.{Naming, named, passed, StandsAt}
 use Rattle.m386_core.specs.Place.{HasFinished}
 
@@ -18,13 +17,6 @@ pub record Rises (c a : ℕ) (f : ℕ → Naming) : Type 0 where
 -- how many places on from one number another stands, in turn
 abbrev pub gap : ℕ → ℕ → ℕ → ℕ
 gap c number due = if nat_lt due number then due + c - number else due - number
-
--- a machine after more cycles
-pub record GoesOn (old new : MachineView) : Type 0 where
-  pub same : SameMachine old new
-  pub more : List Cycle
-  pub cycles : new.log.cycles ≡ old.log.cycles ++ more
-  pub kept : IsMachine new
 
 -- each processor has finished
 abbrev pub IsOver : MachineView → Type 0

@@ -59,7 +59,12 @@ fn is_held_up(midgroup: Option<u8>, cpu: u8) -> bool
 
 impl<'a> Machine<'a> {
     /// A machine with the image's first `cpus` processors, which make up to `steps` steps each, at most 65,536.
-    pub fn new(alloc: Global, image: &'a Image, cpus: u8, steps: u32) -> Result<Machine<'a>, NoMemory>
+    pub fn new(
+        alloc: Global,
+        image: &'a Image,
+        cpus: u8,
+        steps: u32,
+    ) -> Result<Machine<'a>, NoMemory>
         requires valid { IsValid image.now }
         requires some { 1 ≤ cpus }
         requires most { cpus ≤ image.now.cpus }

@@ -2,9 +2,9 @@
 ghost use Rattle.std.specs.Prelude.{◌≡◌, ◌≢◌, ◌+◌, ◌/◌, ◌%◌, ◌^◌, ◌<◌, [], ℕ, OnOk, IfOk, MatchResult, filter, nat_lt};
 ghost use Rattle.m386_step.specs.Run.{Run};
 ghost use Rattle.m386_core.specs.declared.order.Order.{Order as OrderData};
-ghost use Rattle.m386_core.specs.Machine.{PassesOver, MakesCycle};
+ghost use Rattle.m386_core.specs.Machine.{PassesOver, MakesCycle, GoesOn};
 ghost use Rattle.m386_core.specs.Order.{draw_of, listed, followed, Naming, Turns, Drawn, InOrder};
-ghost use Rattle.m386_core.specs.Running.{Stands, Rises, gap, GoesOn, IsOver};
+ghost use Rattle.m386_core.specs.Running.{Stands, Rises, gap, IsOver};
 
 use crate::machine::Machine;
 use crate::order::Order;
@@ -32,6 +32,24 @@ fn in_turn(number: u8, cpus: u8) -> u8
 }
 
 impl<'a> Machine<'a> {
+    /// Goes on in an order until all have finished. The run is in this order where the history was empty before. Where there is
+    /// no memory to keep a cycle, the cycles made so far stay: they are a front of the run.
+    pub fn run_order(&mut self, order: &Order) -> Result<(), NoMemory>
+        ensures run { OnOk result (Run self.new.image self.new.cpus self.new.budget self.new.log.cycles self.new.ends) }
+        ensures order { self.old.log.cycles ≡ []
+            → InOrder self.new.image self.new.cpus self.new.budget order.now self.new.log.cycles }
+        ensures goes { GoesOn self.old self.new }
+    {
+        match order {
+            Order::Round => self.run_turns(),
+            Order::Seed(seed) => self.run_drawn(*seed),
+            Order::List(members) => {
+                self.run_listed(members.as_slice())?;
+                self.run_turns()
+            }
+        }
+    }
+
     /// Makes the next cycle by the first processor from this number on, in turn, that isn't passed over, and answers which
     /// that is. One that isn't passed over is due.
     fn turn_from(&mut self, first: u8, due: u8) -> Result<u8, NoMemory>
@@ -44,7 +62,7 @@ impl<'a> Machine<'a> {
         ensures order { (order : OrderData) (a : ℕ) (f : ℕ → Naming) → first ≡ a % self.old.cpus → Rises self.old.cpus a f
             → Stands order self.old (f 0)
             → MatchResult result (λ number. (i : ℕ) × (number ≡ (a + i) % self.old.cpus) × Stands order self.new (followed (f i)))
-                (λ _. (i : ℕ) × Stands order self.new (f i)) }
+            (λ _. (i : ℕ) × Stands order self.new (f i)) }
     {
         let mut number = first;
         while self.next(number)? == Turn::PassedOver {

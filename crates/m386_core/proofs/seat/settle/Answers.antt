@@ -1,9 +1,5 @@
-use Rattle.std.proofs.Common.{rules, ◌≢◌, arith, []}
-use Rattle.m386_base.specs.Replay.{replay}
+use Rattle.std.proofs.Common.{rules, ◌≢◌, arith}
 use Rattle.m386_state.specs.declared.proc.Mode.TheVariants.{Shutdown}
-use Rattle.m386_step.specs.declared.answer.Probe.TheVariants as probes
-use Rattle.m386_step.specs.Probes.{Probes}
-use Rattle.m386_step.specs.Step.{step_phrase}
 use Rattle.m386_core.proofs.Seats.{settles_on, settles_at}
 use Rattle.m386_core.proofs.seat.settle.Goals as goal
 

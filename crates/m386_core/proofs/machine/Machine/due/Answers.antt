@@ -1,4 +1,4 @@
-use Rattle.std.proofs.Common.{◌≡◌, ◌<◌, ◌∙◌, sym, ℕ, Some, None, true, false, subst, arith}
+use Rattle.std.proofs.Common.{◌≡◌, ◌∙◌, sym, ℕ, None, true, subst, arith}
 use Rattle.std.specs.Option.{is_some}
 use Rattle.m386_core.specs.declared.seat.Seat.{Seat}
 use Rattle.m386_core.specs.Place.{IsPassedOver}
@@ -32,9 +32,9 @@ pub returns-clause-over : goal.returns-clause-over
 returns-clause-over c =
     let i = c.self.inside in
     rw (← c.self.view_is) (λ _ p lt. (
-      let s = seat_of i.image.now i.cpus i.budget i.log.first i.log.cycles i.ends.items i.seats.items i.midgroup c.self.invariant p lt in
-      let none : s.seat.next ≡ None = subst (λ (t : Seat). t.next ≡ None) s.seat_is (c.loop-cpu.invariant p s.seat (omega arith)) in
-      finished_at i.image.now i.cpus i.budget i.log.first i.log.cycles i.ends.items i.seats.items i.midgroup c.self.invariant p s.seat lt s.seat_is none))
+    let s = seat_of i.image.now i.cpus i.budget i.log.first i.log.cycles i.ends.items i.seats.items i.midgroup c.self.invariant p lt in
+    let none : s.seat.next ≡ None = subst (λ (t : Seat). t.next ≡ None) s.seat_is (c.loop-cpu.invariant p s.seat (omega arith)) in
+    finished_at i.image.now i.cpus i.budget i.log.first i.log.cycles i.ends.items i.seats.items i.midgroup c.self.invariant p s.seat lt s.seat_is none))
 
 pub returns-clause-kept : goal.returns-clause-kept
 returns-clause-kept c =

@@ -1,9 +1,7 @@
-use Rattle.std.proofs.Common.{rules, ◌≡◌, ◌≢◌, ℕ, ◌∙◌, sym, refl, Result, Ok, Some, ap, subst}
-use Rattle.m386_base.specs.declared.fault.NoMemory.{NoMemory}
-use Rattle.m386_core.specs.declared.turn.Turn.{Turn}
+use Rattle.std.proofs.Common.{rules, ◌≡◌, ◌≢◌, ℕ, ◌∙◌, sym, Ok, Some, ap, subst}
 use Rattle.m386_core.specs.declared.turn.Turn.TheVariants as turns
-use Rattle.m386_core.specs.Machine.{HasAmidGroup, MakesCycle, PassesOver}
-use Rattle.m386_core.proofs.Groups.{GroupSoFar, group_one, group_more, amid_not_passed, room_shrinks, turn_made, made_not_passed}
+use Rattle.m386_core.specs.Machine.{HasAmidGroup}
+use Rattle.m386_core.proofs.Groups.{group_one, group_more, amid_not_passed, room_shrinks, turn_made, made_not_passed}
 use Rattle.m386_core.proofs.machine.Machine.group.Goals as goal
 
 pub loop-self-init : goal.loop-self-init

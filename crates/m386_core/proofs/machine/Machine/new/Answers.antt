@@ -1,5 +1,4 @@
-use Rattle.std.proofs.Common.{◌≡◌, arith, [], refl, ap, sym, None}
-use Rattle.std.specs.Option.{ForSome}
+use Rattle.std.proofs.Common.{◌≡◌, arith, [], None}
 use Rattle.m386_step.specs.Run.{start_of}
 use Rattle.m386_step.specs.Steps.{Steps}
 use Rattle.m386_core.specs.declared.seat.Seat.{Seat}
@@ -15,7 +14,7 @@ loop-cpu-preserved c =
     let none : Steps 0 [] 0 s [] c.start.result = rw c.start.ensures (start_steps s) in
     let new : IsSeated c.args.steps s [] c.settle-next.new.end c.new.result.items c.settle-next.result = rw c.new.ensures (c.settle-next.ensures.seated s [] none) in
     rw (c.in_ok-push.ensures.items, c.in_ok-push-2.ensures.items) (
-      seats_more c.args.image.now c.args.steps c.loop-cpu.ends.items c.loop-cpu.seats.items c.loop-cpu.cpu c.settle-next.new.end t c.loop-cpu.invariant new c.settle-next.ensures.opens)
+    seats_more c.args.image.now c.args.steps c.loop-cpu.ends.items c.loop-cpu.seats.items c.loop-cpu.cpu c.settle-next.new.end t c.loop-cpu.invariant new c.settle-next.ensures.opens)
 
 pub invariant_of-result : goal.invariant_of-result
 invariant_of-result c =

@@ -1,18 +1,16 @@
-use Rattle.std.proofs.Common.{◌≡◌, ◌<◌, ◌++◌, ◌∷◌, [], List, ℕ, refl, sym, ◌∙◌, ap, arith, rules, true, false, get_or, Some, None, Ok, Err, set, length, inl}
+use Rattle.std.proofs.Common.{◌≡◌, ◌<◌, ◌++◌, ◌∷◌, [], refl, sym, ◌∙◌, arith, true, false, set, inl}
 use Rattle.std.proofs.lemmas.List.{get_or-set_same}
 use Rattle.m386_base.specs.declared.ask.Cycle.{Cycle}
 use Rattle.m386_base.specs.Bus.{cycle_of}
-use Rattle.m386_base.specs.declared.fault.NoMemory.{NoMemory}
 use Rattle.m386_memory.specs.declared.ended.ProcEnd.{ProcEnd}
 use Rattle.m386_state.specs.declared.proc.Proc.{Proc}
 use Rattle.m386_core.specs.declared.turn.Turn.TheVariants as turns
-use Rattle.m386_core.specs.declared.seat.Seat.{Seat}
-use Rattle.m386_core.specs.Kept.{IsKept, is_another}
+use Rattle.m386_core.specs.Kept.{is_another}
 use Rattle.m386_core.specs.Seat.{Waits}
 use Rattle.m386_step.specs.Run.{start_of}
 use Rattle.m386_memory.specs.History.{IsHistory, cycles_of}
 use Rattle.m386_core.proofs.Growing.{kept_more}
-use Rattle.m386_core.proofs.Keeping.{err_is_not_ok, waits_on, waits_as, lawful_at, kept_machine, held_up, finished_at, waits_at, not_passed, joined_follows}
+use Rattle.m386_core.proofs.Keeping.{err_is_not_ok, waits_on, waits_as, lawful_at, kept_machine, held_up, finished_at, not_passed, joined_follows}
 use Rattle.m386_core.proofs.Seats.{few_answers}
 use Rattle.m386_core.proofs.machine.Machine.next.Goals as goal
 
@@ -94,7 +92,7 @@ invariant_of-self-2 c =
     let new = c.hear.ensures (start_of i.image.now c.args.cpu) (cycles_of c.args.cpu i.log.cycles) c.in-Some.ask waited c.in_ok-value.ensures.enabled c.in_ok-value.ensures.none in
     let reread : c.index-2.result.now ≡ c.hear.new.self = c.index-2.ensures ∙ get_or-set_same i.seats.items c.args.cpu c.hear.new.self c.index-2.result.now (omega (arith, c.self.invariant.count_seats)) in
     rw (c.in_ok-value.ensures.made, c.midgroup-self-inside.ensures, reread) (
-      kept_more i.image.now i.cpus i.budget i.log.first i.log.cycles i.ends.items i.seats.items i.midgroup c.args.cpu x c.hear.new.end c.hear.new.self c.self.invariant below refl alone history new)
+    kept_more i.image.now i.cpus i.budget i.log.first i.log.cycles i.ends.items i.seats.items i.midgroup c.args.cpu x c.hear.new.end c.hear.new.self c.self.invariant below refl alone history new)
 
 pub returns-clause-passed : goal.returns-clause-passed
 returns-clause-passed c =

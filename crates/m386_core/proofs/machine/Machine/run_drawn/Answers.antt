@@ -1,5 +1,4 @@
-use Rattle.std.proofs.Common.{◌≡◌, ◌<◌, ◌%◌, ◌/◌, ◌^◌, ◌∙◌, ℕ, sym, ap}
-use Rattle.m386_core.specs.Machine.{MachineView}
+use Rattle.std.proofs.Common.{◌%◌, ◌/◌, ◌^◌, ◌∙◌, ℕ, sym, ap}
 use Rattle.m386_core.specs.Order.{Drawn, draw_of}
 use Rattle.m386_core.proofs.Groups.{room_shrinks}
 use Rattle.m386_core.proofs.Runs.{drawn_begin, drawn_next, drawn_lost}

@@ -1,4 +1,4 @@
-use Rattle.std.proofs.Common.{◌≡◌, ◌<◌, ◌≤◌, drop, ◌∙◌, ℕ, sym, subst, ap, get_or, Ok}
+use Rattle.std.proofs.Common.{◌<◌, ◌≤◌, drop, ◌∙◌, sym, subst, ap, get_or, Ok}
 use Rattle.m386_core.specs.Machine.{MachineView}
 use Rattle.m386_core.specs.Order.{listed}
 use Rattle.m386_core.specs.Running.{Stands}
@@ -16,15 +16,15 @@ returns-in_err-next-clause-order c = λ order s. match_err c.from_residual.resul
 
 pub loop-cpu-preserved : goal.loop-cpu-preserved
 loop-cpu-preserved c = elim c.if-cpu-cpus.branch [
-    | then-cpu-cpus+in_ok-next w ↦
-        let below : get_or c.args.members.now c.loop-cpu.cpu-index 0 < c.args.self.now.cpus = rw c.cpus-cpus.ensures.cpus at w.if-cpu-cpus.true in
-        rw w.self-is (listed_next c.args.members.now c.args.self.now c.loop-cpu.self w.next.new.self c.loop-cpu.cpu-index w.in_ok-next.field-0 c.loop-cpu-test.true c.loop-cpu.invariant below
-        (λ t. (w.in_ok-next.ensures.same (made_differs w.in_ok-next.field-0 t), w.in_ok-next.ensures.passed.0 (ap Ok t)))
-        (λ t. (w.in_ok-next.ensures.made (ap Ok t), w.in_ok-next.ensures.kept, λ h. made_not_passed (sym (ap Ok t) ∙ w.in_ok-next.ensures.passed.1 h))))
-    | else-cpu-cpus w ↦
-        let past : c.args.self.now.cpus ≤ get_or c.args.members.now c.loop-cpu.cpu-index 0 = rw c.cpus-cpus.ensures.cpus at w.if-cpu-cpus.false in
-        rw w.self-is (listed_skips c.args.members.now c.args.self.now c.loop-cpu.self c.loop-cpu.cpu-index c.loop-cpu-test.true c.loop-cpu.invariant past)
-  ]
+  | then-cpu-cpus+in_ok-next w ↦
+      let below : get_or c.args.members.now c.loop-cpu.cpu-index 0 < c.args.self.now.cpus = rw c.cpus-cpus.ensures.cpus at w.if-cpu-cpus.true in
+      rw w.self-is (listed_next c.args.members.now c.args.self.now c.loop-cpu.self w.next.new.self c.loop-cpu.cpu-index w.in_ok-next.field-0 c.loop-cpu-test.true c.loop-cpu.invariant below
+      (λ t. (w.in_ok-next.ensures.same (made_differs w.in_ok-next.field-0 t), w.in_ok-next.ensures.passed.0 (ap Ok t)))
+      (λ t. (w.in_ok-next.ensures.made (ap Ok t), w.in_ok-next.ensures.kept, λ h. made_not_passed (sym (ap Ok t) ∙ w.in_ok-next.ensures.passed.1 h))))
+  | else-cpu-cpus w ↦
+      let past : c.args.self.now.cpus ≤ get_or c.args.members.now c.loop-cpu.cpu-index 0 = rw c.cpus-cpus.ensures.cpus at w.if-cpu-cpus.false in
+      rw w.self-is (listed_skips c.args.members.now c.args.self.now c.loop-cpu.self c.loop-cpu.cpu-index c.loop-cpu-test.true c.loop-cpu.invariant past)
+]
 
 pub returns-clause-order : goal.returns-clause-order
 returns-clause-order c = listed_all c.args.members.now c.args.self.now c.loop-cpu.self c.loop-cpu.cpu-index c.loop-cpu-test.false c.loop-cpu.invariant

@@ -1,5 +1,4 @@
-use Rattle.std.proofs.Common.{◌≡◌, ◌<◌, ◌%◌, ◌+◌, ◌∙◌, ℕ, sym, subst}
-use Rattle.m386_core.specs.Machine.{MachineView}
+use Rattle.std.proofs.Common.{◌≡◌, ◌<◌, ◌%◌, ◌+◌, ℕ}
 use Rattle.m386_core.specs.Order.{Turns}
 use Rattle.m386_core.proofs.Groups.{room_shrinks}
 use Rattle.m386_core.proofs.Runs.{turns_begin, turns_next, turns_lost}

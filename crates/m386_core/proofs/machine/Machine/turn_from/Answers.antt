@@ -1,4 +1,4 @@
-use Rattle.std.proofs.Common.{rules, ◌≡◌, ◌≢◌, ◌<◌, ℕ, ◌∙◌, sym, refl, ap, subst, Ok}
+use Rattle.std.proofs.Common.{rules, ◌≡◌, ◌≢◌, ◌<◌, ℕ, ◌∙◌, sym, ap, subst, Ok}
 use Rattle.m386_core.specs.declared.turn.Turn.TheVariants as turns
 use Rattle.m386_core.specs.Machine.{MachineView, MakesCycle, PassesOver}
 use Rattle.m386_core.specs.Running.{gap}

@@ -1,4 +1,4 @@
-use Rattle.std.proofs.Common.{◌≡◌, ◌++◌, ◌∷◌, [], List, ℕ, subst}
+use Rattle.std.proofs.Common.{◌++◌, ◌∷◌, []}
 use Rattle.m386_base.specs.Replay.{replay}
 use Rattle.m386_step.specs.declared.answer.Probe.TheVariants as probes
 use Rattle.m386_step.specs.Probes.{Probes}
