@@ -3,7 +3,7 @@ ghost use Rattle.std.specs.Prelude.{◌≡◌, ◌≢◌, ◌↔◌, ◌⊎◌, 
 ghost use Rattle.std.specs.Option.{ForSome};
 ghost use Rattle.m386_image.specs.Format.{IsValid};
 ghost use Rattle.m386_core.specs.Kept.{is_another};
-ghost use Rattle.m386_core.specs.Machine.{IsMachine, MakesCycle, MakesGroup, PassesOver, HasAmidGroup};
+ghost use Rattle.m386_core.specs.Machine.{IsMachine, MakesCycle, MakesGroup, GoesOn, PassesOver, HasAmidGroup};
 ghost use Rattle.m386_core.specs.Place.{HasFinished};
 ghost use Rattle.m386_core.specs.declared.turn.Turn.TheVariants as turns;
 
@@ -135,7 +135,7 @@ impl<'a> Machine<'a> {
         ensures passed { (result ≡ Ok turns.PassedOver) ↔ PassesOver self.old cpu }
         ensures made { result ≡ Ok turns.Made → MakesCycle cpu self.old self.new }
         ensures same { result ≢ Ok turns.Made → self.new ≡ self.old }
-        ensures kept { IsMachine self.new }
+        ensures goes { GoesOn self.old self.new }
     {
         let at = cpu as usize;
         if is_held_up(self.midgroup, cpu) {
@@ -160,7 +160,7 @@ impl<'a> Machine<'a> {
         ensures made { result ≡ Ok turns.Made → MakesGroup cpu self.old self.new }
         ensures closed { result ≡ Ok turns.Made → (q : ℕ) → ¬ HasAmidGroup self.new q }
         ensures err { OnErr result ((self.new ≡ self.old) ⊎ MakesGroup cpu self.old self.new) }
-        ensures kept { IsMachine self.new }
+        ensures goes { GoesOn self.old self.new }
     {
         if self.next(cpu)? == Turn::PassedOver {
             return Ok(Turn::PassedOver);

@@ -11,6 +11,7 @@ use Rattle.m386_step.specs.Run.{start_of}
 use Rattle.m386_memory.specs.History.{IsHistory, cycles_of}
 use Rattle.m386_core.proofs.Growing.{kept_more}
 use Rattle.m386_core.proofs.Keeping.{err_is_not_ok, waits_on, waits_as, lawful_at, kept_machine, held_up, finished_at, not_passed, joined_follows}
+use Rattle.m386_core.proofs.Orders.{goes_nowhere, goes_cycle}
 use Rattle.m386_core.proofs.Seats.{few_answers}
 use Rattle.m386_core.proofs.machine.Machine.next.Goals as goal
 
@@ -20,10 +21,10 @@ returns-then-is_held_up-clause-passed c =
     let another : is_another i.midgroup c.args.cpu ≡ true = sym c.is_held_up.ensures ∙ c.if-is_held_up.true in
     rw (← c.self.view_is) (λ _. held_up i.image.now i.cpus i.budget i.log.first i.log.cycles i.ends.items i.seats.items i.midgroup c.self.invariant c.args.cpu another, λ _. refl)
 
-pub returns-then-is_held_up-clause-kept : goal.returns-then-is_held_up-clause-kept
-returns-then-is_held_up-clause-kept c =
+pub returns-then-is_held_up-clause-goes : goal.returns-then-is_held_up-clause-goes
+returns-then-is_held_up-clause-goes c =
     let i = c.self.inside in
-    rw (← c.self.view_is) (kept_machine i.image.now i.cpus i.budget i.log.first i.log.cycles i.ends.items i.seats.items i.midgroup c.self.invariant)
+    goes_nowhere c.args.self.now (rw (← c.self.view_is) (kept_machine i.image.now i.cpus i.budget i.log.first i.log.cycles i.ends.items i.seats.items i.midgroup c.self.invariant))
 
 pub returns-in_default-clause-passed : goal.returns-in_default-clause-passed
 returns-in_default-clause-passed c =
@@ -31,10 +32,10 @@ returns-in_default-clause-passed c =
     let below : c.args.cpu < i.cpus = rw (← c.self.view_is) at c.requires in
     rw (← c.self.view_is) (λ _. inl (finished_at i.image.now i.cpus i.budget i.log.first i.log.cycles i.ends.items i.seats.items i.midgroup c.self.invariant c.args.cpu c.index.result.now below (sym c.index.ensures) c.in_default.is), λ _. refl)
 
-pub returns-in_default-clause-kept : goal.returns-in_default-clause-kept
-returns-in_default-clause-kept c =
+pub returns-in_default-clause-goes : goal.returns-in_default-clause-goes
+returns-in_default-clause-goes c =
     let i = c.self.inside in
-    rw (← c.self.view_is) (kept_machine i.image.now i.cpus i.budget i.log.first i.log.cycles i.ends.items i.seats.items i.midgroup c.self.invariant)
+    goes_nowhere c.args.self.now (rw (← c.self.view_is) (kept_machine i.image.now i.cpus i.budget i.log.first i.log.cycles i.ends.items i.seats.items i.midgroup c.self.invariant))
 
 pub put-requires-clause-lawful : goal.put-requires-clause-lawful
 put-requires-clause-lawful c =
@@ -58,10 +59,10 @@ returns-in_err-value-clause-passed c =
       λ h. absurd (not_passed i.image.now i.cpus i.budget i.log.first i.log.cycles i.ends.items i.seats.items i.midgroup c.self.invariant c.args.cpu c.index.result.now c.in-Some.ask below alone (sym c.index.ensures) c.in-Some.is h),
     )
 
-pub returns-in_err-value-clause-kept : goal.returns-in_err-value-clause-kept
-returns-in_err-value-clause-kept c =
+pub returns-in_err-value-clause-goes : goal.returns-in_err-value-clause-goes
+returns-in_err-value-clause-goes c =
     let i = c.self.inside in
-    rw c.in_err-value.ensures.err (kept_machine i.image.now i.cpus i.budget i.log.first i.log.cycles i.ends.items i.seats.items i.midgroup c.self.invariant)
+    rw (← c.self.view_is, c.in_err-value.ensures.err) (goes_nowhere (record { image = i.image.now; cpus = i.cpus; budget = i.budget; log = i.log; ends = i.ends.items }) (kept_machine i.image.now i.cpus i.budget i.log.first i.log.cycles i.ends.items i.seats.items i.midgroup c.self.invariant))
 
 -- how the processor waited
 waited : (c : goal.After-index_mut-2) → Waits c.self.inside.budget (start_of c.self.inside.image.now c.args.cpu) (cycles_of c.args.cpu c.self.inside.log.cycles) c.index_mut-2.result.now c.index_mut.result.now.answers.items c.in-Some.ask
@@ -118,7 +119,8 @@ returns-clause-made c =
       cycles = refl;
     })
 
-pub returns-clause-kept : goal.returns-clause-kept
-returns-clause-kept c =
+pub returns-clause-goes : goal.returns-clause-goes
+returns-clause-goes c =
     let i = c.self.inside in
-    kept_machine i.image.now i.cpus i.budget c.put.new.self.first c.put.new.self.cycles (set i.ends.items c.args.cpu c.hear.new.end) (set i.seats.items c.args.cpu c.hear.new.self) c.midgroup-self-inside.result (invariant_of-self-2 c)
+    goes_cycle c.args.cpu c.args.self.now (record { image = i.image.now; cpus = i.cpus; budget = i.budget; log = c.put.new.self; ends = set i.ends.items c.args.cpu c.hear.new.end }) (returns-clause-made c refl)
+    (kept_machine i.image.now i.cpus i.budget c.put.new.self.first c.put.new.self.cycles (set i.ends.items c.args.cpu c.hear.new.end) (set i.seats.items c.args.cpu c.hear.new.self) c.midgroup-self-inside.result (invariant_of-self-2 c))

@@ -20,7 +20,7 @@ loop-cpu-preserved c = elim c.if-cpu-cpus.branch [
       let below : get_or c.args.members.now c.loop-cpu.cpu-index 0 < c.args.self.now.cpus = rw c.cpus-cpus.ensures.cpus at w.if-cpu-cpus.true in
       rw w.self-is (listed_next c.args.members.now c.args.self.now c.loop-cpu.self w.next.new.self c.loop-cpu.cpu-index w.in_ok-next.field-0 c.loop-cpu-test.true c.loop-cpu.invariant below
       (λ t. (w.in_ok-next.ensures.same (made_differs w.in_ok-next.field-0 t), w.in_ok-next.ensures.passed.0 (ap Ok t)))
-      (λ t. (w.in_ok-next.ensures.made (ap Ok t), w.in_ok-next.ensures.kept, λ h. made_not_passed (sym (ap Ok t) ∙ w.in_ok-next.ensures.passed.1 h))))
+      (λ t. (w.in_ok-next.ensures.made (ap Ok t), w.in_ok-next.ensures.goes.kept, λ h. made_not_passed (sym (ap Ok t) ∙ w.in_ok-next.ensures.passed.1 h))))
   | else-cpu-cpus w ↦
       let past : c.args.self.now.cpus ≤ get_or c.args.members.now c.loop-cpu.cpu-index 0 = rw c.cpus-cpus.ensures.cpus at w.if-cpu-cpus.false in
       rw w.self-is (listed_skips c.args.members.now c.args.self.now c.loop-cpu.self c.loop-cpu.cpu-index c.loop-cpu-test.true c.loop-cpu.invariant past)

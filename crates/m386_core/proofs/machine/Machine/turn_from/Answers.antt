@@ -39,7 +39,7 @@ pub returns-clause-made : goal.returns-clause-made
 returns-clause-made c = subst (λ (m : MachineView). MakesCycle c.loop-self.number m c.next.new.self) c.loop-self.invariant.unchanged (makes c)
 
 pub returns-clause-goes : goal.returns-clause-goes
-returns-clause-goes c = goes_cycle c.loop-self.number c.args.self.now c.next.new.self (returns-clause-made c) c.in_ok-next.ensures.kept
+returns-clause-goes c = goes_cycle c.loop-self.number c.args.self.now c.next.new.self (returns-clause-made c) c.in_ok-next.ensures.goes.kept
 
 pub returns-clause-order : goal.returns-clause-order
 returns-clause-order c =
