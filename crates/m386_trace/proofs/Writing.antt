@@ -1,5 +1,5 @@
 -- The lines of cycles and of processors, written one after another.
-use Rattle.std.proofs.Common.{◌≡◌, ℕ, zero, suc, ◌+◌, ◌<◌, ◌≤◌, List, [], ◌∷◌, ◌++◌, length, get_or, take, drop, Option, refl, ap, sym, subst, ◌∙◌, append_assoc, append-nil, add-one, add-zero, add-suc, arith}
+use Rattle.std.proofs.Common.{◌≡◌, ℕ, zero, suc, ◌+◌, ◌<◌, List, [], ◌∷◌, ◌++◌, length, get_or, take, drop, Option, refl, ap, sym, subst, ◌∙◌, append_assoc, append-nil, add-one, add-zero, arith}
 use Rattle.std.specs.List.{flat_map}
 use Rattle.m386_base.specs.declared.ask.Cycle.{Cycle}
 use Rattle.m386_edge.specs.Edge.{Grows, GrowsByFront}

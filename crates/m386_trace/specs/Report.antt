@@ -1,5 +1,5 @@
 -- The report on a run, line by line.
-use Rattle.std.specs.Prelude.{◌≡◌, ℕ, ◌+◌, ◌<◌, List, [], ◌∷◌, ◌++◌, Option, Some, None, length, slice_index, codes, decimal}
+use Rattle.std.specs.Prelude.{ℕ, ◌+◌, ◌<◌, List, [], ◌∷◌, ◌++◌, Option, Some, None, length, slice_index, codes, decimal}
 use Rattle.std.specs.List.{flat_map}
 use Rattle.m386_base.specs.declared.ask.Ask.{Ask}
 use Rattle.m386_base.specs.declared.ask.Cycle.{Cycle}

@@ -1,5 +1,5 @@
 //! Lines and a report, byte for byte.
-ghost use Rattle.std.specs.Prelude.{◌<◌, All, IfOk};
+ghost use Rattle.std.specs.Prelude.{◌≡◌, ◌<◌, All, IfOk};
 
 use crate::cycle::cycle_line;
 use crate::proc::proc_line;
@@ -56,83 +56,102 @@ fn first_run() -> ProcEnd<Proc> {
 const FIRST_RUN: &str =
     "p 0 halted steps 3 eip 0000100b efl 00000002 eax 12345678 ecx 00000000 edx 00000000 ebx 00000000 esp 00000000 ebp 00000000 esi 00000000 edi 00000000 es 0010 cs 0008 ss 0010 ds 0010 fs 0010 gs 0010 ldt 0000 tr 0000 cr0 00000001 pending none\n";
 
+/// A cycle of processor 0.
+fn made(ask: Ask) -> Cycle
+    ensures { result ≡ record { cpu = 0; ask = ask } }
+{
+    Cycle { cpu: 0, ask }
+}
+
 #[test]
 fn cycles_of_a_run(rt: HostRuntime) {
-    let lines = [
-        (0, FETCH, "c 0 m r . fetch 00 00001000 f 345678b8\n"),
-        (
-            0,
-            Ask {
-                addr: 0x1004,
-                value: 0x2000_a312,
-                ..FETCH
-            },
-            "c 0 m r . fetch 00 00001004 f 2000a312\n",
-        ),
-        (
-            0,
-            Ask {
-                addr: 0x1008,
-                value: 0xf4_0000,
-                ..FETCH
-            },
-            "c 0 m r . fetch 00 00001008 f 00f40000\n",
-        ),
-        (0, STORE, "c 0 m w . data 00 00002000 f 12345678\n"),
-        (
-            0,
-            Ask {
-                enables: 8,
-                value: 0x7800_0000,
-                ..STORE
-            },
-            "c 0 m w . data 00 00002000 8 78000000\n",
-        ),
-        (
-            0,
-            Ask {
-                part: 1,
-                addr: 0x2004,
-                enables: 7,
-                value: 0x12_3456,
-                ..STORE
-            },
-            "c 0 m w . data 01 00002004 7 00123456\n",
-        ),
-        (
-            7,
-            Ask {
-                joined: true,
-                value: 2,
-                ..STORE
-            },
-            "c 7 m w + data 00 00002000 f 00000002\n",
-        ),
-        (
-            0,
-            Ask {
-                space: Space::Port,
-                addr: 4,
-                enables: 8,
-                value: 0,
-                ..STORE
-            },
-            "c 0 p w . data 00 00000004 8 00000000\n",
-        ),
-        (
-            1,
-            Ask {
-                role: Role::ClaimStart,
-                part: 99,
-                addr: 0xffff_fffc,
-                ..FETCH
-            },
-            "c 1 m r . claimstart 99 fffffffc f 345678b8\n",
-        ),
-    ];
-    for (cpu, ask, line) in lines {
-        assert_eq!(rt; cycle_line(&Cycle { cpu, ask }).as_str(), line);
-    }
+    let second = Ask {
+        addr: 0x1004,
+        value: 0x2000_a312,
+        ..FETCH
+    };
+    let third = Ask {
+        addr: 0x1008,
+        value: 0xf4_0000,
+        ..FETCH
+    };
+    assert_eq!(rt;
+        cycle_line(&made(FETCH)).as_str(),
+        "c 0 m r . fetch 00 00001000 f 345678b8\n"
+    );
+    assert_eq!(rt;
+        cycle_line(&made(second)).as_str(),
+        "c 0 m r . fetch 00 00001004 f 2000a312\n"
+    );
+    assert_eq!(rt;
+        cycle_line(&made(third)).as_str(),
+        "c 0 m r . fetch 00 00001008 f 00f40000\n"
+    );
+    assert_eq!(rt;
+        cycle_line(&made(STORE)).as_str(),
+        "c 0 m w . data 00 00002000 f 12345678\n"
+    );
+}
+
+#[test]
+fn cycles_of_a_split_store(rt: HostRuntime) {
+    let first = Ask {
+        enables: 8,
+        value: 0x7800_0000,
+        ..STORE
+    };
+    let second = Ask {
+        part: 1,
+        addr: 0x2004,
+        enables: 7,
+        value: 0x12_3456,
+        ..STORE
+    };
+    assert_eq!(rt;
+        cycle_line(&made(first)).as_str(),
+        "c 0 m w . data 00 00002000 8 78000000\n"
+    );
+    assert_eq!(rt;
+        cycle_line(&made(second)).as_str(),
+        "c 0 m w . data 01 00002004 7 00123456\n"
+    );
+}
+
+#[test]
+fn each_form_of_a_cycle(rt: HostRuntime) {
+    let joined = Cycle {
+        cpu: 7,
+        ask: Ask {
+            joined: true,
+            value: 2,
+            ..STORE
+        },
+    };
+    let port = Ask {
+        space: Space::Port,
+        addr: 4,
+        enables: 8,
+        value: 0,
+        ..STORE
+    };
+    let last = Ask {
+        role: Role::ClaimStart,
+        part: 99,
+        addr: 0xffff_fffc,
+        ..FETCH
+    };
+    assert_eq!(rt;
+        cycle_line(&joined).as_str(),
+        "c 7 m w + data 00 00002000 f 00000002\n"
+    );
+    assert_eq!(rt;
+        cycle_line(&made(port)).as_str(),
+        "c 0 p w . data 00 00000004 8 00000000\n"
+    );
+    assert_eq!(rt;
+        cycle_line(&made(last)).as_str(),
+        "c 0 m r . claimstart 99 fffffffc f 345678b8\n"
+    );
 }
 
 #[test]

@@ -1,5 +1,3 @@
-use Rattle.std.specs.Prelude.{All}
-use Rattle.m386_trace.specs.Report.{IsPrintable}
 use Rattle.m386_trace.proofs.Printable.{all_printable}
 use Rattle.m386_trace.proofs.report.report.Goals as goal
 

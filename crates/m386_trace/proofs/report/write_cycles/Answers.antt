@@ -1,4 +1,4 @@
-use Rattle.std.proofs.Common.{sym, ◌∙◌, ap, arith, rules}
+use Rattle.std.proofs.Common.{sym, ◌∙◌, arith, rules}
 use Rattle.m386_edge.proofs.Edge.{grown-nil}
 use Rattle.m386_trace.proofs.Writing.{cycles_more, cycles_front}
 use Rattle.m386_trace.proofs.report.write_cycles.Goals as goal
