@@ -1,4 +1,5 @@
 pub mod Digits
 pub mod Lines
 pub mod Printable
+pub mod Told
 pub mod Writing

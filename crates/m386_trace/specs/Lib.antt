@@ -1,3 +1,4 @@
 pub mod Line
-pub mod Words
 pub mod Report
+pub mod Told
+pub mod Words

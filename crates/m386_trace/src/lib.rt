@@ -3,6 +3,7 @@
 
 pub mod cycle;
 mod field;
+pub mod laws;
 mod machine;
 pub mod proc;
 pub mod report;

@@ -35,7 +35,8 @@ fn write_title<K: Sink>(out: &mut K) -> Result<(), Failed>
 #[tactic(auto, using(m386_edge::proofs::Edge::growing))]
 fn write_head<K: Sink>(image: &Image, cpus: usize, out: &mut K) -> Result<(), Failed>
     ensures ok { OnOk result (Grows (K.held out.old) (K.held out.new) (title_text ++ machine_text image.now cpus)) }
-    ensures err { OnErr result (GrowsByFront (K.held out.old) (K.held out.new) (title_text ++ machine_text image.now cpus)) }
+    ensures err { OnErr result
+        (GrowsByFront (K.held out.old) (K.held out.new) (title_text ++ machine_text image.now cpus)) }
     ensures failed { OnErr result (Rose (K.faults out.old) (K.faults out.new)) }
     ensures never_falls { K.faults out.old ≤ K.faults out.new }
 {

@@ -23,7 +23,8 @@ fn unclean(rule: u8) -> ArrayString<64>
 
 /// The line of a run that fails a rule at a cycle, but for its line feed.
 fn unclean_at(rule: u8, index: u64) -> ArrayString<64>
-    ensures bytes { result.bytes ≡ codes "unclean" ++ spaced (codes "rule" ∷ decimal rule ∷ codes "at" ∷ decimal index ∷ []) }
+    ensures bytes { result.bytes
+        ≡ codes "unclean" ++ spaced (codes "rule" ∷ decimal rule ∷ codes "at" ∷ decimal index ∷ []) }
     ensures len { array_string_len result < 64 }
 {
     let mut line = unclean(rule);
