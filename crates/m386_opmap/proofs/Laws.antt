@@ -5,10 +5,11 @@ use Rattle.m386_opmap.specs.declared.op.Op.{Op}
 use Rattle.m386_opmap.specs.declared.outcome.Reading.{Reading}
 use Rattle.m386_opmap.specs.declared.outcome.Reading.TheVariants.{Spelled, More, Refused}
 use Rattle.m386_opmap.specs.Opcodes.{opcode_rows}
-use Rattle.m386_opmap.specs.Readings.{reading_of}
+use Rattle.m386_opmap.specs.Readings.{prefixed_reading, reading_by, reading_of}
 use Rattle.m386_opmap.specs.Spelling.{Spells, BeginsSpelling, HasNoSpelling, IsReadingOf}
 use Rattle.m386_opmap.proofs.Complete.{complete}
 use Rattle.m386_opmap.proofs.Lawful.{opcodes_lawful}
+use Rattle.m386_opmap.proofs.OneRow.{one_row}
 use Rattle.m386_opmap.proofs.ReadingOutcomes.{outcome}
 use Rattle.m386_opmap.proofs.Sound.{AreBytes, Outcome, Fronts, Stops, front_bytes}
 
@@ -159,3 +160,12 @@ ends bytes b (Refused at) more o = ends_refused bytes b at o.front o.byte o.rest
 -- where bytes want more, the next byte ends the spelling, or is refused, or more is wanted again
 pub reading_ends : (bytes : List ℕ) (b : ℕ) → AreBytes (bytes ++ b ∷ []) → reading_of bytes ≡ More → IsAtEnd (bytes ++ b ∷ []) (reading_of (bytes ++ b ∷ []))
 reading_ends bytes b are more = ends bytes b (reading_of (bytes ++ b ∷ [])) more (outcome_of (bytes ++ b ∷ []) are)
+
+-- no bytes yet want more
+pub reading_nothing : reading_of [] ≡ More
+unfolding reading_of reading_by prefixed_reading
+reading_nothing = refl
+
+-- no two rows match one string of bytes
+pub one_opcode_row : (op other : Op) (bytes : List ℕ) (s : Spells op bytes) (t : Spells other bytes) → s.row ≡ t.row
+one_opcode_row op other bytes s t = one_row opcode_rows op other bytes opcodes_lawful s t

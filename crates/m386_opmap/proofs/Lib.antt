@@ -3,6 +3,7 @@ pub mod Find
 pub mod Lawful
 pub mod Laws
 pub mod Numbers
+pub mod OneRow
 pub mod OpcodeOutcomes
 pub mod Outcomes
 pub mod Prefixing

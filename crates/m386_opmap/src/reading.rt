@@ -244,6 +244,11 @@ pub fn one_operation()
     ensures { (op other : Op) (bytes : List ℕ) → Spells op bytes → Spells other bytes → op ≡ other }
 {}
 
+/// No two rows match one string of bytes.
+pub fn one_row_for_bytes()
+    ensures { (op other : Op) (bytes : List ℕ) (spelling : Spells op bytes) (another : Spells other bytes) → spelling.row ≡ another.row }
+{}
+
 /// No spelling is a proper front of another.
 pub fn no_longer_spelling()
     ensures { (op other : Op) (bytes rest : List ℕ) → Spells op bytes → Spells other (bytes ++ rest) → rest ≡ [] }
