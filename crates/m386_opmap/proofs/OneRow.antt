@@ -1,7 +1,7 @@
 -- The row of a spelling is the only one that its bytes match.
-use Rattle.std.specs.Prelude.{◌==◌, is_some, Contains}
+use Rattle.std.specs.Prelude.{◌==◌, is_some}
 use Rattle.std.specs.List.{All}
-use Rattle.std.proofs.Common.{◌≡◌, ℕ, ◌+◌, ◌-◌, ◌*◌, ◌<◌, ◌≤◌, ◌⊎◌, inl, inr, List, [], ◌∷◌, ◌++◌, length, refl, sym, ◌∙◌, ap, Bool, true, false, Option, Some, None, arith, subst, append_assoc}
+use Rattle.std.proofs.Common.{◌≡◌, ℕ, ◌+◌, ◌-◌, ◌*◌, ◌≤◌, inl, inr, List, [], ◌∷◌, ◌++◌, refl, sym, ◌∙◌, ap, true, false, Option, arith, subst}
 use Rattle.std.proofs.lemmas.Bool.{cases_Bool, both_ways, eq-eqb, le-ltb, lt-ltb}
 use Rattle.std.proofs.lemmas.List.Elements.{All-head, All-tail}
 use Rattle.m386_opmap.specs.declared.op.Arg.{Arg}
@@ -116,7 +116,7 @@ one_row rows op other bytes law s t =
       | inr without ↦ sym (like.same without)
       | inl with ↦ (
           let mid : s.middle ≡ t.middle = same_middle s.modrm t.modrm s.tail t.tail s.middle t.middle
-              (form_head s.form (sym s.wanted ∙ with)) (form_head t.form (sym t.wanted ∙ (like.alike ∙ with))) same.behind in
+          (form_head s.form (sym s.wanted ∙ with)) (form_head t.form (sym t.wanted ∙ (like.alike ∙ with))) same.behind in
           let key : 8 * t.opcode + t.middle ≡ 8 * s.opcode + s.middle = omega (arith, same.opcode) in
           let C : ℕ → Type 0 = λ k. Covers t.row k in
           one_covers 0 rows s.row t.row (8 * s.opcode + s.middle) law.rise s.listed t.listed s.covered (subst C key t.covered))
