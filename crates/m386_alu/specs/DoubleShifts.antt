@@ -30,7 +30,7 @@ after_double_shift w a count p f =
 -- A double shift to the left or to the right, and the flags after it. Of the count the low 5 bits count. Where these are 0,
 -- or more than the width, nothing changes.
 -- Source: Intel 80386 PRM 3.4.4.2
--- Own choice: docs/DECISIONS.md, "Flags that the manual leaves undefined"
+-- Own choice: docs/DECISIONS.md, "Double shifts"
 unfoldable pub double_shift_of : Bool → Width → ℕ → ℕ → ℕ → Flags → ℕ × Flags
 double_shift_of left w a b count f =
     let n = count % 32 in
