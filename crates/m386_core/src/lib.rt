@@ -5,4 +5,6 @@ pub mod machine;
 pub mod order;
 mod running;
 mod seat;
+#[cfg(test)]
+mod tests;
 pub mod turn;

@@ -1,0 +1,177 @@
+//! Worked cases of several processors, with the cycles written out by hand.
+ghost use Rattle.std.specs.Prelude.{◌≡◌, ◌≤◌, IfOk};
+ghost use Rattle.m386_image.specs.Format.{IsValid};
+
+use crate::machine::Machine;
+use crate::order::Order;
+use crate::turn::Turn;
+use m386_base::ask::{Ask, Cycle, Role, Space};
+use m386_base::fault::NoMemory;
+use m386_base::list::List;
+use m386_image::fault::ReadStop;
+use m386_image::image::Image;
+use m386_image::reading::read_image;
+use m386_state::proc::Mode;
+use std::alloc::Global;
+use std::test::Fail;
+
+/// Two bare processors at 1000, which both find `mov eax, 1` and `xchg [2000], eax` there.
+const EXCHANGE: [u8; 83] = [
+    0x4d, 0x33, 0x38, 0x36, 0x01, 0x00, 0x02, 0x00, 0x00, 0x40, 0x00, 0x00, 0x00, 0x00, 0x00, 0x00,
+    0x00, 0x00, 0x00, 0x00, 0x00, 0x00, 0x00, 0x00, 0x00, 0x00, 0x00, 0x00, 0x01, 0x00, 0x00, 0x00,
+    0x00, 0x10, 0x00, 0x00, 0x00, 0x10, 0x00, 0x00, 0x00, 0x00, 0x00, 0x00, 0x00, 0x00, 0x00, 0x00,
+    0x00, 0x00, 0x00, 0x00, 0x00, 0x00, 0x00, 0x00, 0x00, 0x00, 0x00, 0x00, 0x00, 0x00, 0x00, 0x00,
+    0x00, 0x10, 0x00, 0x00, 0x0b, 0x00, 0x00, 0x00, 0xb8, 0x01, 0x00, 0x00, 0x00, 0x87, 0x05, 0x00,
+    0x20, 0x00, 0x00,
+];
+
+/// The image of two processors.
+fn exchange(alloc: Global) -> Result<Image, ReadStop>
+    ensures { IfOk result IsValid }
+{
+    read_image(alloc, &EXCHANGE)
+}
+
+/// A cycle of an exchange on 2000.
+fn swap(cpu: u8, write: bool, value: u32) -> Cycle {
+    Cycle {
+        cpu,
+        ask: Ask {
+            space: Space::Memory,
+            write,
+            joined: write,
+            role: Role::Operand,
+            part: 0,
+            addr: 0x2000,
+            enables: 15,
+            value,
+        },
+    }
+}
+
+#[test]
+fn two_processors_exchange(rt: HostRuntime) -> Result<(), Fail> {
+    let image = exchange(rt.alloc())?;
+    assert!(rt; image.cpus >= 2);
+    let mut machine = Machine::new(rt.alloc(), &image, 2, 2)?;
+    assert_eq!(rt;
+        (machine.image().cpus, machine.cpus(), machine.budget()),
+        (2, 2, 2)
+    );
+    machine.run_order(&Order::Round)?;
+    assert_eq!(rt; (machine.midgroup(), machine.due()), (None, None));
+    let ended = machine.ended();
+    let cycles = ended.log.cycles();
+    assert_eq!(rt; cycles.len(), 12);
+    if cycles.len() == 12 {
+        let last = [
+            swap(0, false, 0),
+            swap(0, true, 1),
+            swap(1, false, 1),
+            swap(1, true, 1),
+        ];
+        assert_eq!(rt; &cycles[8..], last.as_slice());
+    }
+    for (cpu, end) in ended.procs.as_slice().iter().enumerate() {
+        assert_eq!(rt;
+            (end.after.regs[0], end.after.eip, end.steps),
+            (cpu as u32, 0x100b, 2)
+        );
+    }
+    Ok(())
+}
+
+/// The processors that made the cycles of a run of the exchange in an order.
+fn makers(alloc: Global, order: &Order) -> Result<List<u8>, Fail> {
+    let image = exchange(alloc)?;
+    let mut cpus = List::new(alloc);
+    if image.cpus >= 2 {
+        let mut machine = Machine::new(alloc, &image, 2, 2)?;
+        machine.run_order(order)?;
+        for cycle in machine.ended().log.cycles() {
+            cpus.push(cycle.cpu)?;
+        }
+    }
+    Ok(cpus)
+}
+
+#[test]
+fn each_order_names_in_its_way(rt: HostRuntime) -> Result<(), Fail> {
+    let zeros = List::of(vec![in rt.alloc(); 0; 200]?);
+    let ones = List::of(vec![in rt.alloc(); 1; 200]?);
+    let few = List::of(vec![in rt.alloc(); 9, 1, 0]?);
+    let rows = [
+        (Order::Round, [0, 1, 0, 1, 0, 1, 0, 1, 0, 0, 1, 1]),
+        (Order::Seed(0), [1, 0, 1, 0, 1, 1, 0, 1, 1, 0, 0, 0]),
+        (Order::Seed(1), [0, 1, 0, 0, 0, 1, 0, 0, 1, 1, 1, 1]),
+        (Order::List(zeros), [0, 0, 0, 0, 0, 0, 1, 1, 1, 1, 1, 1]),
+        (Order::List(ones), [1, 1, 1, 1, 1, 1, 0, 0, 0, 0, 0, 0]),
+        (Order::List(few), [1, 0, 0, 1, 0, 1, 0, 1, 0, 0, 1, 1]),
+    ];
+    for (order, wanted) in &rows {
+        let cpus = makers(rt.alloc(), order)?;
+        assert_eq!(rt; cpus.as_slice(), wanted.as_slice(), "{order:?}");
+    }
+    Ok(())
+}
+
+/// One turn of a processor, for one cycle or for a whole group.
+fn turn(machine: &mut Machine<'_>, cpu: u8, whole: bool) -> Result<Turn, NoMemory> {
+    if cpu >= machine.cpus() {
+        return Ok(Turn::PassedOver);
+    }
+    if whole {
+        machine.group(cpu)
+    } else {
+        machine.next(cpu)
+    }
+}
+
+#[test]
+fn a_locked_group_lets_no_other_in(rt: HostRuntime) -> Result<(), Fail> {
+    let image = exchange(rt.alloc())?;
+    assert!(rt; image.cpus >= 2);
+    let mut machine = Machine::new(rt.alloc(), &image, 2, 2)?;
+    let rows = [
+        (4, 0, false, Turn::Made, None),
+        (1, 0, false, Turn::Made, Some(0)),
+        (1, 1, false, Turn::PassedOver, Some(0)),
+        (1, 1, true, Turn::PassedOver, Some(0)),
+        (1, 0, true, Turn::Made, None),
+        (1, 0, true, Turn::PassedOver, None),
+        (5, 1, true, Turn::Made, None),
+        (1, 1, false, Turn::PassedOver, None),
+    ];
+    for (times, cpu, whole, wanted, amid) in rows {
+        for _ in 0..times {
+            assert_eq!(rt; turn(&mut machine, cpu, whole)?, wanted);
+        }
+        assert_eq!(rt; machine.midgroup(), amid);
+    }
+    let ended = machine.ended();
+    assert_eq!(rt; ended.log.cycles().last(), Some(&swap(1, true, 1)));
+    Ok(())
+}
+
+#[test]
+fn steps_without_a_cycle_are_taken_at_once(rt: HostRuntime) -> Result<(), Fail> {
+    // Processor 0 finds no operation in zeros and shuts down, and processor 1 halts.
+    let mut bytes = EXCHANGE;
+    bytes[33] = 0x20;
+    bytes[72] = 0xf4;
+    let image = read_image(rt.alloc(), &bytes)?;
+    assert!(rt; image.cpus >= 2);
+    let mut machine = Machine::new(rt.alloc(), &image, 2, 5)?;
+    machine.run_order(&Order::Round)?;
+    let ended = machine.ended();
+    let values = [0, 0x01f4];
+    for (cycle, value) in ended.log.cycles().iter().zip(values) {
+        assert_eq!(rt; cycle.ask.value, value);
+    }
+    assert_eq!(rt; ended.log.cycles().len(), 2);
+    let wanted = [(2, Mode::Shutdown), (5, Mode::Halted)];
+    for (end, (steps, mode)) in ended.procs.as_slice().iter().zip(wanted) {
+        assert_eq!(rt; (end.steps, end.after.mode), (steps, mode));
+    }
+    Ok(())
+}
