@@ -4,3 +4,5 @@
 pub mod event;
 pub mod proc;
 pub mod segment;
+#[cfg(test)]
+mod tests;
