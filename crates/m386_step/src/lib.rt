@@ -15,3 +15,5 @@ pub mod operation;
 pub mod probe;
 pub mod run;
 pub mod step;
+#[cfg(test)]
+mod tests;
