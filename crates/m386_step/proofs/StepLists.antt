@@ -1,8 +1,9 @@
 -- Whole steps that are followed by one more.
-use Rattle.std.proofs.Common.{◌≡◌, ◌≢◌, ℕ, zero, suc, ◌+◌, List, [], ◌++◌, refl, ap, ◌∙◌, append_assoc, append-nil, add-one, ◌<◌, inl, inr, sym}
+use Rattle.std.proofs.Common.{◌≡◌, ◌≢◌, ℕ, zero, suc, ◌+◌, List, [], ◌++◌, refl, ap, ◌∙◌, append_assoc, append-nil, add-one, ◌<◌, inl, inr, sym, Some}
 use Rattle.m386_base.specs.declared.ask.Ask.{Ask}
+use Rattle.m386_base.specs.declared.fault.Stop.{Stop}
 use Rattle.m386_base.specs.Bus.{BusView}
-use Rattle.m386_base.specs.Phrase.{Whole, Wants, IsJudged, SameBus}
+use Rattle.m386_base.specs.Phrase.{Whole, Wants, IsJudged, SameBus, Stopped}
 use Rattle.m386_base.proofs.Bounds.{follow-front}
 use Rattle.m386_state.specs.declared.proc.Proc.{Proc}
 use Rattle.m386_state.specs.declared.proc.Mode.TheVariants.{Shutdown}
@@ -48,8 +49,8 @@ pub runs_down : (s : Proc) (old now : BusView) (p : Proc) (k n : ℕ) → SoFar 
 runs_down s old now p k n h l e = record { added = h.added; cycles = h.cycles; runs = record { steps = h.steps; budget = inr (l, e) }; same = h.same }
 
 -- the bus stopped in the midst of a step
-pub stops_amid : (s : Proc) (old now new : BusView) (p : Proc) (k n : ℕ) (q : Ask) → SoFar s old now p k → k < n → IsJudged (step_phrase p) now new (Wants q) → StopsAmid [] n s old new p
-stops_amid s old now new p k n q h l j = record {
+pub stops_amid : (s : Proc) (old now new : BusView) (p : Proc) (k n : ℕ) (q : Ask) → SoFar s old now p k → k < n → IsJudged (step_phrase p) now new (Wants q) → new.wanted ≡ Some q → StopsAmid [] n s old new p
+stops_amid s old now new p k n q h l j r = record {
   whole = h.added;
   front = j.0;
   count = k;
@@ -58,4 +59,16 @@ stops_amid s old now new p k n q h l j = record {
   fewer = l;
   steps = h.steps;
   wants = j.2;
+  refused = r;
+}
+
+-- a bus that was the same up to where it stopped
+pub stopped_then : (old now new : BusView) (w : Stop) → SameBus old now → Stopped now new w → Stopped old new w
+stopped_then old now new w p q = record {
+  kept = q.kept;
+  never_falls = rw (← p.stops) q.never_falls;
+  rose = rw (← p.stops) q.rose;
+  pauses = q.pauses ∙ p.pauses;
+  origin = q.origin ∙ p.origin;
+  why = rw (← p.pauses) q.why;
 }

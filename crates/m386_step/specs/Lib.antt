@@ -4,6 +4,7 @@ pub mod Exchange
 pub mod Fetch
 pub mod Halt
 pub mod Instruction
+pub mod Judged
 pub mod Jump
 pub mod Moves
 pub mod Opcode

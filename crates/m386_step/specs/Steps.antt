@@ -46,7 +46,7 @@ pub record RunsOn (q : Plan) (n : ℕ) (s : Proc) (old new : BusView) (s2 : Proc
   pub runs : Runs q n s added s2 k
   pub same : SameBus old new
 
--- the cycles that a bus gained are fewer than n whole steps and a proper front of one more
+-- the cycles that a bus gained are fewer than n whole steps and a proper front of one more, whose next ask it refused
 pub record StopsAmid (q : Plan) (n : ℕ) (s : Proc) (old new : BusView) (s2 : Proc) : Type 0 where
   pub whole : List Ask
   pub front : List Ask
@@ -56,3 +56,4 @@ pub record StopsAmid (q : Plan) (n : ℕ) (s : Proc) (old new : BusView) (s2 : P
   pub fewer : count < n
   pub steps : Steps count q 0 s whole s2
   pub wants : Follow s2 front ≡ Wants wanted
+  pub refused : new.wanted ≡ Some wanted

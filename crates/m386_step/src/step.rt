@@ -1,5 +1,5 @@
 //! One step of one processor.
-ghost use Rattle.std.specs.Prelude.{◌≡◌, ◌≢◌, false, [], OnOk, OnErr, MatchResult};
+ghost use Rattle.std.specs.Prelude.{◌≡◌, ◌≢◌, ◌+◌, ◌<◌, ◌≤◌, false, [], length, OnOk, OnErr, MatchResult};
 ghost use Rattle.m386_base.specs.declared.ask.Ask.{Ask as AskRecord};
 ghost use Rattle.m386_base.specs.Phrase.{PerformsOrStops, IsJudged, Whole, Wants, SameBus, Stopped, it};
 ghost use Rattle.m386_step.specs.Step.{step_phrase, running_phrase, is_due, without_event, traced, faulted, event_of};
@@ -107,13 +107,15 @@ pub fn advance<B: Bus>(p: &mut Proc, bus: &mut B) -> Result<(), Stop>
 /// One step. `Ok`: the cycles that it added to the bus are one whole step from the old state, at most 192, and `p` is the
 /// state after it. `Stop`: they are a proper front of one, `p` is as before, the bus is free, and it refused the ask that
 /// the step wants next. A stop comes only where the bus answered it in this call.
-#[tactic(auto, using(m386_base::proofs::Phrases::completes_judged, m386_base::proofs::Phrases::breaks_judged))]
+#[tactic(auto, using(m386_base::proofs::Phrases::completes_judged, m386_base::proofs::Phrases::breaks_judged, crate::proofs::Few::whole_adds_few, crate::proofs::Few::front_adds_fewer))]
 pub fn step<B: Bus>(p: &mut Proc, bus: &mut B) -> Result<(), Stop>
     requires free { (B.view bus.old).kept ≡ false }
     requires lives { p.old.mode ≢ Mode.Shutdown }
     ensures whole { OnOk result (IsJudged (step_phrase p.old) (B.view bus.old) (B.view bus.new) (Whole p.new [])) }
     ensures bus { MatchResult result (λ _. SameBus (B.view bus.old) (B.view bus.new)) (Stopped (B.view bus.old) (B.view bus.new)) }
     ensures wants { OnErr result ((q : AskRecord) × IsJudged (step_phrase p.old) (B.view bus.old) (B.view bus.new) (Wants q) × ((B.view bus.new).wanted ≡ Some q)) }
+    ensures few { OnOk result (length (B.view bus.new).cycles ≤ length (B.view bus.old).cycles + 192) }
+    ensures fewer { OnErr result (length (B.view bus.new).cycles < length (B.view bus.old).cycles + 192) }
     ensures free { (B.view bus.new).kept ≡ false }
     ensures stopped { OnErr result (p.new ≡ p.old) }
 {
