@@ -1,11 +1,11 @@
 -- What follows from when each status comes.
-use Rattle.std.proofs.Common.{◌≡◌, ℕ, ◌+◌, ◌<◌, ◌≤◌, ◌⊎◌, inl, inr, refl, sym, ◌∙◌, ap, subst, arith, List, [], ◌∷◌, ◌++◌, length, append-nil, length-append, Option, Some, None, Result, Ok, Err}
+use Rattle.std.proofs.Common.{◌≡◌, ℕ, ◌<◌, ◌≤◌, inl, inr, refl, sym, ◌∙◌, ap, arith, List, [], ◌++◌, length, append-nil, length-append, Option, Some, None, Ok, Err}
 use Rattle.m386_base.specs.Bus.{Rose}
 use Rattle.m386_edge.specs.Edge.{Gave, IsEmptied, given_back}
 use Rattle.m386_image.specs.Format.{ImageOf}
 use Rattle.m386_image.specs.declared.fault.ImageFault.{ImageFault}
 use Rattle.m386_image.specs.declared.image.Image.{Image as ImageData}
-use Rattle.m386.specs.Top.{Edges, IsAnswer, IsFaultOf, IsFirstForm, IsReport, OrMemory, most_bytes}
+use Rattle.m386.specs.Top.{Edges, IsAnswer, IsFaultOf, IsFirstForm, OrMemory, most_bytes}
 use Rattle.m386.specs.Words.{words_mean}
 use Rattle.m386.specs.declared.status.UsageKind.{UsageKind}
 use Rattle.m386.specs.declared.status.Status.{Status}

@@ -1,10 +1,10 @@
 -- Sections that a loop has yet to put into the memory.
-use Rattle.std.proofs.Common.{◌≡◌, ℕ, ◌+◌, ◌<◌, ◌≤◌, List, [], ◌∷◌, length, drop, take, get_or, refl, sym, ◌∙◌, ap, subst, add-one, drop-cons, ◌++◌}
+use Rattle.std.proofs.Common.{◌≡◌, ℕ, ◌+◌, ◌<◌, ◌≤◌, List, length, drop, get_or, refl, sym, ◌∙◌, ap, subst, add-one, drop-cons}
 use Rattle.std.proofs.lemmas.List.{drop_all}
 use Rattle.m386_image.specs.declared.image.Image.{Image}
 use Rattle.m386_image.specs.declared.image.Section.{Section}
-use Rattle.m386_image.specs.Format.{IsValid, IsMemorySize, ArePlaced}
-use Rattle.m386_image.specs.Memory.{fill, fill_all, byte_of_image, zeros as image_zeros}
+use Rattle.m386_image.specs.Format.{IsValid, ArePlaced}
+use Rattle.m386_image.specs.Memory.{fill_all, zeros as image_zeros}
 use Rattle.m386_image.proofs.Filling.{filled_image, section_inside, length-fill, length-fill_all, length-zeros}
 use Rattle.m386_image.proofs.Valid.{valid_memory, valid_placed}
 use Rattle.m386_memory.specs.Contents.{Contents, zeros, filled}

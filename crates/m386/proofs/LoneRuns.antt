@@ -1,5 +1,5 @@
 -- A history of one processor, one cycle on.
-use Rattle.std.proofs.Common.{◌≡◌, ℕ, ◌<◌, ◌≤◌, Bool, true, false, ◌&&◌, eqb, List, [], ◌∷◌, ◌++◌, refl, sym, ap, subst, ◌∙◌, arith, zero, suc, length, get_or, map, filter, slice_get, Some}
+use Rattle.std.proofs.Common.{◌≡◌, ℕ, ◌<◌, Bool, true, false, ◌&&◌, eqb, List, [], ◌∷◌, ◌++◌, refl, sym, ap, subst, ◌∙◌, arith, zero, suc, length, get_or, map, filter, slice_get, Some}
 use Rattle.std.specs.List.{AllByRecursion}
 use Rattle.m386_base.specs.Bus.{BusView}
 use Rattle.m386_base.specs.declared.ask.Ask.{Ask}

@@ -1,5 +1,5 @@
 -- The numbers, names and texts of statuses.
-use Rattle.std.specs.Prelude.{ℕ, List, [], ◌∷◌, ◌++◌, codes, decimal}
+use Rattle.std.specs.Prelude.{ℕ, List, [], ◌++◌, codes, decimal}
 use Rattle.m386_image.specs.Fault.{fault_number, fault_name}
 use Rattle.m386.specs.declared.status.UsageKind.{UsageKind}
 use Rattle.m386.specs.declared.status.UsageKind.TheVariants.{Command, Line, Value, Cpus, Budget}

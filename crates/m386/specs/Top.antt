@@ -1,5 +1,5 @@
 -- What a call of the program answers, and what it leaves of its source and its sinks.
-use Rattle.std.specs.Prelude.{◌≡◌, ℕ, ◌+◌, ◌<◌, ◌≤◌, ◌↔◌, ◌⊎◌, Result, Ok, Err, Option, Some, None, IsSome, IfSome, List, [], length}
+use Rattle.std.specs.Prelude.{◌≡◌, ℕ, ◌+◌, ◌<◌, ◌≤◌, ◌↔◌, ◌⊎◌, Ok, Err, Option, Some, None, IsSome, IfSome, List, length}
 use Rattle.m386_base.specs.Bus.{Rose}
 use Rattle.m386_base.specs.declared.ask.Cycle.{Cycle}
 use Rattle.m386_book.specs.Verdict.{IsFirstFailure}

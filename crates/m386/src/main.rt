@@ -7,6 +7,8 @@ mod lone_bus;
 mod perform;
 mod status;
 mod tell;
+#[cfg(test)]
+mod tests;
 mod top;
 mod words;
 

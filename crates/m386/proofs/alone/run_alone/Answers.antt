@@ -1,10 +1,9 @@
-use Rattle.std.proofs.Common.{◌≡◌, ◌∙◌, ap, refl, sym, List, [], ◌∷◌, ◌++◌}
+use Rattle.std.proofs.Common.{◌≡◌, ◌∙◌, ap, sym, List, [], ◌∷◌, ◌++◌}
 use Rattle.m386_base.specs.Bus.{BusView}
 use Rattle.m386_image.proofs.Valid.{valid_plan}
 use Rattle.m386_memory.specs.History.{RecordView, cycles_of}
 use Rattle.m386_memory.specs.declared.ended.ProcEnd.{ProcEnd}
 use Rattle.m386_state.specs.declared.proc.Proc.{Proc}
-use Rattle.m386_step.specs.Run.{Run}
 use Rattle.m386.proofs.LoneRuns.{is_run}
 use Rattle.m386.proofs.alone.run_alone.Goals as goal
 

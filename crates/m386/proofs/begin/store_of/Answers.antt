@@ -1,4 +1,4 @@
-use Rattle.std.proofs.Common.{◌≡◌, ◌∙◌, ap, List, sym}
+use Rattle.std.proofs.Common.{◌≡◌, ◌∙◌, ap, List}
 use Rattle.m386_image.specs.declared.image.Section.{Section}
 use Rattle.m386_image.specs.Memory.{fill_all}
 use Rattle.m386_memory.specs.Contents.{Contents}

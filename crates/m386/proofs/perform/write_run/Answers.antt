@@ -1,6 +1,5 @@
-use Rattle.std.proofs.Common.{◌≡◌, List, Option}
+use Rattle.std.proofs.Common.{◌≡◌}
 use Rattle.std.specs.Option.{option_copied}
-use Rattle.m386_book.specs.declared.verdict.Verdict.{Verdict}
 use Rattle.m386.specs.Top.{IsJudged}
 use Rattle.m386.proofs.perform.write_run.Goals as goal
 

@@ -1,4 +1,4 @@
-use Rattle.std.proofs.Common.{◌≡◌, refl, sym, ◌∙◌, ap, List, ℕ, codes}
+use Rattle.std.proofs.Common.{◌≡◌, refl, sym, codes}
 use Rattle.m386_edge.proofs.Edge.{grown-nil}
 use Rattle.m386.specs.Status.{status_line, fault_line}
 use Rattle.m386.proofs.tell.tell.Goals as goal

@@ -1,7 +1,6 @@
-use Rattle.std.proofs.Common.{◌≡◌, ◌∙◌, ap, refl, sym, arith, true, false, eqb, ◌++◌, ◌∷◌, ◌-◌, ◌≤◌, length, take, drop, length-drop}
+use Rattle.std.proofs.Common.{◌≡◌, ◌∙◌, ap, refl, sym, arith, true, false, eqb, ◌++◌, ◌-◌, ◌≤◌, length, drop, length-drop}
 use Rattle.std.proofs.lemmas.List.{take_all}
 use Rattle.std.specs.List.{starts_with}
-use Rattle.m386.specs.Words.{texts, values_of}
 use Rattle.m386.proofs.Options.{found_so_far, values_skip, values_take, two_found, none_before}
 use Rattle.m386.proofs.words.only_value.Goals as goal
 
