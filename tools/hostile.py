@@ -1,0 +1,195 @@
+#!/usr/bin/env python3
+"""Runs the program on broken images and odd words, and prints which status came how often.
+
+usage: hostile.py PROGRAM IMAGE [CHANGES [SEED]]
+
+PROGRAM is the built program, IMAGE an image with one section that it runs, CHANGES how many random changes of the image
+are tried (3000).
+Every answer has to be one that the table of statuses names: its number, its text on err, and nothing on out but at
+status 0, where a whole report stands there, and at 4, where a front of it does. Any other answer is printed, and ends
+this script with status 1.
+"""
+import os
+import random
+import re
+import subprocess
+import sys
+from collections import Counter
+
+REPORT = re.compile(
+    rb"m386 report 1\nmemory [0-9a-f]{8} cpus \d\n(c [0-7] [^\n]*\n)*(p [0-7] [^\n]*\n)+(t [^\n]*\n)*(clean|unclean [^\n]*)\n\Z"
+)
+USAGE = [b"1 Command", b"2 Line", b"3 Value", b"4 Cpus", b"5 Budget"]
+IMAGE = [
+    b"1 ShortHeader", b"2 Magic", b"3 Version", b"4 MemorySize", b"5 Processors",
+    b"6 Flags", b"7 Truncated", b"8 PlanOrder", b"9 Section", b"10 Trailing",
+]
+TEXTS = {
+    0: [b""],
+    1: [b"m386: out of memory\n"],
+    2: [b"m386: usage fault " + name + b"\n" for name in USAGE],
+    3: [b"m386: read fault\n"],
+    4: [b"m386: write fault\n"],
+    5: [b"m386: image fault " + name + b"\n" for name in IMAGE],
+    7: [b"m386: input too long\n"],
+    11: [b"m386: words unreadable\n"],
+}
+RUN = ["run", "--order=round", "--steps=3"]
+MOST = 20_971_520
+
+
+class Folder:
+    """A folder as an input, each read of which fails."""
+
+    def __init__(self, path):
+        self.handle = os.open(path, os.O_RDONLY)
+
+    def __enter__(self):
+        return self.handle
+
+    def __exit__(self, *_):
+        os.close(self.handle)
+
+
+class Tries:
+    """Calls of the program, counted by group, status and text."""
+
+    def __init__(self, program):
+        self.program = program
+        self.seen = Counter()
+        self.bad = []
+
+    def call(self, group, words, data):
+        """A call whose input, output and err are pipes that serve."""
+        ended = subprocess.run([self.program, *words], input=data, capture_output=True, timeout=120)
+        status, out, err = ended.returncode, ended.stdout, ended.stderr
+        named = err in TEXTS.get(status, [])
+        shape = bool(REPORT.match(out)) if status == 0 else out == b""
+        self.count(group, status, err, named and shape, words, out)
+
+    def call_over(self, group, wanted, path, out=subprocess.PIPE, err=subprocess.PIPE):
+        """A call that runs the image over these files, and has to end with the wanted status."""
+        with Folder(path) if os.path.isdir(path) else open(path, "rb") as source:
+            ended = subprocess.run([self.program, *RUN], stdin=source, stdout=out, stderr=err, timeout=120)
+        text = TEXTS[wanted][0] if ended.stderr is not None else None
+        named = ended.returncode == wanted and ended.stderr == text
+        shape = wanted == 0 or not ended.stdout
+        self.count(group, ended.returncode, ended.stderr or b"", named and shape, RUN, ended.stdout or b"")
+
+    def count(self, group, status, err, good, words, out):
+        self.seen[(group, status, err.decode(errors="replace").strip())] += 1
+        if not good:
+            self.bad.append((group, [w[:60] for w in words], status, out[:200], err[:200]))
+
+
+def changed(image, chance):
+    """A copy of the image with one to eight bytes replaced, put in or left out."""
+    data = bytearray(image)
+    for _ in range(chance.randint(1, 8)):
+        place = chance.randrange(len(data) + 1)
+        how = chance.randrange(4)
+        if how == 0:
+            data.insert(place, chance.randrange(256))
+        elif how == 1 and place < len(data):
+            del data[place]
+        elif place < len(data):
+            data[place] = chance.choice([0, 1, 0x7F, 0x80, 0xFF, chance.randrange(256)])
+    return bytes(data)
+
+
+def code_changed(image, chance):
+    """A copy of the image whose code, the last eleven bytes, is random or begins with the jumps and moves known today."""
+    code = bytes(chance.choice([0xA1, 0xA3, 0xB8, 0xE9, 0xEB, 0xF4, chance.randrange(256)]) for _ in range(11))
+    return image[:-11] + code
+
+
+def words_to_try():
+    """Words in a wrong order, twice, empty, very long, near the limits, and bytes that are no text."""
+    long = "x" * 100_000
+    return [
+        [], [""], [" "], ["Run"], ["RUN"], ["run "], ["runs"], ["ru"], ["asm"], ["soak"], ["--help"], ["-h"],
+        ["run"], ["run", ""], ["run", "run"], ["--steps=3", "run"], ["--order=round", "--steps=3"],
+        ["--order=round", "run", "--steps=3"], ["run", "--steps=3", "--order=round"], ["run", "--order=round"],
+        ["run", "--order=round", "--order=round"], ["run", "--order=round", "--order=seed"],
+        ["run", "--steps=3", "--order=round", "--steps=3"], ["run", "--steps=3"], ["run", "--order="],
+        ["run", "--order=Round"], ["run", "--order=round "], ["run", "--order=threads"], ["run", "--order=seed"],
+        ["run", "--order"], ["run", "--order", "round"], ["run", "--steps"], ["run", "--steps", "3"],
+        ["run", "--order=round", "--steps="], ["run", "--order=round", "--steps"],
+        ["run", "--order=round", "--steps=x"], ["run", "--order=round", "--steps=-1"],
+        ["run", "--order=round", "--steps=+1"], ["run", "--order=round", "--steps= 1"],
+        ["run", "--order=round", "--steps=1 "], ["run", "--order=round", "--steps=0x1"],
+        ["run", "--order=round", "--steps=1.0"], ["run", "--order=round", "--steps=1e3"],
+        ["run", "--order=round", "--steps=0"], ["run", "--order=round", "--steps=00000000000000000003"],
+        ["run", "--order=round", "--steps=000000000000000000003"], ["run", "--order=round", "--steps=65536"],
+        ["run", "--order=round", "--steps=65537"], ["run", "--order=round", "--steps=4294967296"],
+        ["run", "--order=round", "--steps=4294967299"], ["run", "--order=round", "--steps=18446744073709551616"],
+        ["run", "--order=round", "--steps=18446744073709551619"],
+        ["run", "--order=round", "--steps=99999999999999999999"], ["run", "--order=round", "--steps=" + "9" * 100_000],
+        ["run", "--order=round", "--steps=" + "0" * 100_000 + "3"], ["run", "--order=round", "--steps=٣"],
+        ["run", "--order=round", "--", "--steps=3"], ["run", "--order=round", "-steps=3"],
+        ["run", "--order=round", "--steps==3"], ["run", "--order=round", "--STEPS=3"],
+        ["run", "--order=round", "--cpus=1"], ["run", "--order=round", "--seed=1"],
+        ["run", "--order=round", "--steps=x", "--frob"], [long], ["run", long], ["run", "--order=" + long],
+        ["run", "--order=round", "--steps=" + long], ["run"] + ["--steps=3"] * 1000, ["run"] + [""] * 1000, ["run"] + ["--steps=" + long] * 12,
+        ["ü"], ["run", "--order=ründ"],
+    ]
+
+
+def bytes_to_try():
+    """Words that are no text, in place of a command, an option and a value."""
+    return [[b"\xff"], [b"run", b"\xff\xfe"], [b"run", b"--order=\xc3\x28"], [b"run", b"--steps=\xed\xa0\x80"], [b"\xf8" * 1000]]
+
+
+def try_edges(tries, path):
+    """Calls whose input, output or err fails."""
+    empty = os.devnull
+    with open("/dev/full", "wb") as full:
+        tries.call_over("input is a folder", 3, os.path.dirname(os.path.abspath(path)))
+        tries.call_over("output is full", 4, path, out=full)
+        tries.call_over("output and err are full", 4, path, out=full, err=full)
+        tries.call_over("err is full", 5, empty, err=full)
+        tries.call_over("err is full, nothing to tell", 0, path, err=full)
+    end, broken = os.pipe()
+    os.close(end)
+    tries.call_over("output's reader is gone", 4, path, out=broken)
+    tries.call_over("err's reader is gone", 5, empty, err=broken)
+    os.close(broken)
+
+
+def main():
+    program, path = sys.argv[1], sys.argv[2]
+    count = int(sys.argv[3]) if len(sys.argv) > 3 else 3000
+    chance = random.Random(int(sys.argv[4]) if len(sys.argv) > 4 else 1)
+    with open(path, "rb") as file:
+        image = file.read()
+    tries = Tries(os.path.abspath(program))
+    tries.call("the image", RUN, image)
+    for length in range(len(image)):
+        tries.call("truncated", RUN, image[:length])
+    for place in range(len(image)):
+        for bit in range(8):
+            data = bytearray(image)
+            data[place] ^= 1 << bit
+            tries.call("one bit turned", RUN, bytes(data))
+    for _ in range(count):
+        tries.call("changed at random", RUN, changed(image, chance))
+        tries.call("other code", ["run", "--order=round", "--steps=50"], code_changed(image, chance))
+    for more in (1, 1000, MOST - len(image), MOST - len(image) + 1, MOST):
+        tries.call("longer", RUN, image + bytes(more))
+    for size in (0, 1, 63, 64, 4096, 1_000_000):
+        tries.call("no image", RUN, chance.randbytes(size))
+    for words in words_to_try():
+        tries.call("words", words, image)
+        tries.call("words, no input", words, b"")
+    for words in bytes_to_try():
+        tries.call("words that are no text", words, image)
+    try_edges(tries, path)
+    for (group, status, text), times in sorted(tries.seen.items()):
+        print(f"{group:28} {status:4} {times:6}  {text}")
+    for bad in tries.bad:
+        print("NOT NAMED", *bad)
+    return 1 if tries.bad else 0
+
+
+if __name__ == "__main__":
+    sys.exit(main())
