@@ -1,12 +1,12 @@
 -- Words that a loop has yet to look at.
-use Rattle.std.proofs.Common.{◌≡◌, ℕ, ◌+◌, ◌<◌, ◌≤◌, true, false, ◌&&◌, ◌||◌, cond, eqb, List, [], ◌∷◌, ◌++◌, length, drop, get_or, refl, ◌∙◌, add-one, drop-cons, string_bytes, Option, Some, None, String, arith, is_some}
+use Rattle.std.proofs.Common.{◌≡◌, ℕ, ◌+◌, ◌<◌, ◌≤◌, true, false, ◌&&◌, cond, eqb, List, [], ◌∷◌, ◌++◌, length, drop, get_or, refl, ◌∙◌, add-one, drop-cons, string_bytes, Option, Some, None, String, arith, is_some}
 use Rattle.std.proofs.lemmas.List.{drop_all}
 use Rattle.std.specs.Borrow.{Bor}
 use Rattle.std.specs.List.{starts_with}
 use Rattle.std.specs.declared.alloc.Global.{Global}
-use Rattle.m386.specs.Words.{texts, values_of, are_options, order_option, steps_option}
+use Rattle.m386.specs.Words.{texts, values_of, value_list, is_option, are_options}
 
-pub options_next : (ws : List (String Global)) (i : ℕ) (w : String Global) → i < length ws → w ≡ get_or ws i w → are_options (texts (drop i ws)) ≡ ((starts_with eqb (string_bytes w) order_option || starts_with eqb (string_bytes w) steps_option) && are_options (texts (drop (i + 1) ws)))
+pub options_next : (ws : List (String Global)) (i : ℕ) (w : String Global) → i < length ws → w ≡ get_or ws i w → are_options (texts (drop i ws)) ≡ (is_option (string_bytes w) && are_options (texts (drop (i + 1) ws)))
 unfolding are_options
 options_next ws i w h e = rw (drop-cons ws i w h, ← e) (rw (add-one i) refl)
 
@@ -34,20 +34,20 @@ values_take name text ws i w h e t s =
     let u : starts_with eqb (string_bytes w) name ≡ true = rw t at s in
     values_next name ws i w h e ∙ rw (u, t) refl
 
--- the values found so far
-abbrev pub found_so_far : Option (Bor (List ℕ)) → List (List ℕ)
-found_so_far None = []
-found_so_far (Some v) = v.now ∷ []
-
 -- one more value after one that was found
-pub two_found : (vs : List (List ℕ)) (found : Option (Bor (List ℕ))) (x : List ℕ) (xs : List (List ℕ)) → vs ≡ found_so_far found ++ (x ∷ xs) → is_some found ≡ true → 1 < length vs
+pub two_found : (vs : List (List ℕ)) (found : Option (Bor (List ℕ))) (x : List ℕ) (xs : List (List ℕ)) → vs ≡ value_list found ++ (x ∷ xs) → is_some found ≡ true → 1 < length vs
 two_found vs None x xs e h = cc
 two_found vs (Some v) x xs e h = rw e (omega arith)
 
 -- where none was found before
-pub none_before : (vs : List (List ℕ)) (found : Option (Bor (List ℕ))) (rest : List (List ℕ)) → vs ≡ found_so_far found ++ rest → is_some found ≡ false → vs ≡ rest
+pub none_before : (vs : List (List ℕ)) (found : Option (Bor (List ℕ))) (rest : List (List ℕ)) → vs ≡ value_list found ++ rest → is_some found ≡ false → vs ≡ rest
 none_before vs None rest e h = e
 none_before vs (Some v) rest e h = cc
+
+-- all values are found
+pub one_found : (vs : List (List ℕ)) (found : Option (Bor (List ℕ))) → vs ≡ value_list found ++ [] → (vs ≡ value_list found) × (length vs ≤ 1)
+one_found vs None e = (e, rw e (omega arith))
+one_found vs (Some v) e = (e, rw e (omega arith))
 
 pub ruleset options = (options_next, options_end)
 

@@ -1,13 +1,14 @@
 -- What a call of the program answers, and what it leaves of its source and its sinks.
-use Rattle.std.specs.Prelude.{◌≡◌, ℕ, ◌+◌, ◌<◌, ◌≤◌, ◌↔◌, ◌⊎◌, Ok, Err, Option, Some, None, IsSome, IfSome, List, length}
+use Rattle.std.specs.Prelude.{◌≡◌, ℕ, ◌+◌, ◌*◌, ◌<◌, ◌≤◌, ◌↔◌, ◌⊎◌, nat_lt, if◌then◌else◌, Ok, Err, Option, Some, None, IsSome, IfSome, List, length}
 use Rattle.m386_base.specs.Bus.{Rose}
 use Rattle.m386_base.specs.declared.ask.Cycle.{Cycle}
 use Rattle.m386_book.specs.Verdict.{IsFirstFailure}
 use Rattle.m386_book.specs.declared.verdict.Verdict.{Verdict}
+use Rattle.m386_core.specs.Order.{InOrder}
 use Rattle.m386_edge.specs.Edge.{Gave, IsEmptied, Grows, GrowsByFront}
+use Rattle.m386_image.specs.Fault.{FirstFault}
 use Rattle.m386_image.specs.Format.{ImageOf}
 use Rattle.m386_image.specs.declared.fault.ImageFault.{ImageFault}
-use Rattle.m386_image.specs.declared.fault.ImageFault.TheVariants.{ShortHeader, Magic}
 use Rattle.m386_image.specs.declared.image.Image.{Image as ImageRecord}
 use Rattle.m386_memory.specs.declared.ended.ProcEnd.{ProcEnd}
 use Rattle.m386_state.specs.declared.proc.Proc.{Proc}
@@ -15,6 +16,9 @@ use Rattle.m386_step.specs.Run.{Run}
 use Rattle.m386_trace.specs.Report.{report_text}
 use Rattle.m386.specs.Status.{status_line}
 use Rattle.m386.specs.Words.{words_mean}
+use Rattle.m386.specs.declared.words.Asked.{Asked}
+use Rattle.m386.specs.declared.status.UsageKind.{UsageKind}
+use Rattle.m386.specs.declared.status.UsageKind.TheVariants.{Cpus, Budget}
 use Rattle.m386.specs.declared.status.Status.{Status}
 use Rattle.m386.specs.declared.status.Status.TheVariants.{Done, Memory, Usage, ReadFault, WriteFault, Image, TooLong}
 
@@ -23,20 +27,25 @@ use Rattle.m386.specs.declared.status.Status.TheVariants.{Done, Memory, Usage, R
 abbrev pub most_bytes : ℕ
 most_bytes = 20971520
 
--- An image of the form that runs today: one processor that starts bare, no table but the null descriptor, no plan, and one
--- section.
--- Own choice: docs/DECISIONS.md, "The first form"
-pub record IsFirstForm (image : ImageRecord) : Type 0 where
-  pub cpus : image.cpus ≡ 1
-  pub table : image.gdt.limit ≡ 0
-  pub section : length image.sections ≡ 1
+-- How many processors run: as many as are asked for, and else all that the image has.
+-- Own choice: docs/DECISIONS.md, "The words of a call"
+abbrev pub count_of : ImageRecord → Option ℕ → ℕ
+count_of image None = image.cpus
+count_of image (Some count) = count
 
--- The fault of bytes that are no image of the first form.
--- Own choice: docs/DECISIONS.md, "The first form"
-abbrev pub IsFaultOf : List ℕ → ImageFault → Type 0
-IsFaultOf bytes fault =
-    ((fault ≡ ShortHeader) × (length bytes < 64))
-    ⊎ ((fault ≡ Magic) × (64 ≤ length bytes) × ((image : ImageRecord) → ImageOf bytes image → ¬ IsFirstForm image))
+-- The most steps of all processors together.
+-- Own choice: docs/DECISIONS.md, "Limits"
+abbrev pub most_steps : ℕ
+most_steps = 262144
+
+-- Why so many processors with so many steps each are refused, if they are: the image has fewer, or the steps are too many.
+-- Own choice: docs/DECISIONS.md, "Limits"
+abbrev pub excess : ℕ → ℕ → ℕ → Option UsageKind
+excess has count steps = if nat_lt has count then Some Cpus else if nat_lt most_steps (count * steps) then Some Budget else None
+
+-- why an image refuses what is asked for, if it does
+abbrev pub refusal : ImageRecord → Asked → Option UsageKind
+refusal image asked = excess image.cpus (count_of image asked.cpus) asked.steps
 
 -- The source and the output of a call at one moment: the bytes left and the bytes held, where they are told, and how often
 -- each failed.
@@ -58,33 +67,51 @@ pub record IsJudged (image : ImageRecord) (history : List Cycle) (verdict : Opti
   pub judged : IsSome verdict ↔ (image.gdt.limit < 15)
   pub first : IfSome verdict (IsFirstFailure image history)
 
--- The text is the report of a run of the image that these bytes are, with this many steps: the history, the ends and the
--- verdict that it prints are those of the run.
-pub record IsRunText (bytes : List ℕ) (steps : ℕ) (text : List ℕ) : Type 0 where
-  pub image : ImageRecord
-  pub is_image : ImageOf bytes image
-  pub first_form : IsFirstForm image
+-- The history and the ends are of a run of the image with as many processors and steps as are asked for, and the cycles
+-- are in the order that is asked for.
+pub record IsRunOf (image : ImageRecord) (asked : Asked) (history : List Cycle) (ends : List (ProcEnd Proc)) : Type 0 where
+  pub run : Run image (count_of image asked.cpus) asked.steps history ends
+  pub in_order : InOrder image (count_of image asked.cpus) asked.steps asked.order history
+
+-- The text is the report of the run of an image: the history, the ends and the verdict that it prints are those of the run.
+pub record IsRunText (image : ImageRecord) (asked : Asked) (text : List ℕ) : Type 0 where
+  pub allowed : refusal image asked ≡ None
   pub history : List Cycle
   pub ends : List (ProcEnd Proc)
-  pub run : Run image 1 steps history ends
+  pub run : IsRunOf image asked history ends
   pub verdict : Option Verdict
   pub is_judged : IsJudged image history verdict
   pub text_is : text ≡ report_text image history ends verdict
 
--- The text is the report of a run that the words and the bytes of the source ask for: the words name the steps, and the
--- source was read to its end.
-pub record IsReport (words : List (List ℕ)) (old new : Edges) (text : List ℕ) : Type 0 where
-  pub steps : ℕ
-  pub words_mean_it : words_mean words ≡ Ok steps
-  pub bytes : List ℕ
+-- the source was read to its end, and gave these bytes
+pub record WasRead (old new : Edges) (bytes : List ℕ) : Type 0 where
   pub within : length bytes ≤ most_bytes
   pub gave : Gave old.left new.left bytes
   pub emptied : IsEmptied new.left
-  pub run_text : IsRunText bytes steps text
+
+-- The text is the report of the run that the words and the bytes of the source ask for.
+pub record IsReport (words : List (List ℕ)) (old new : Edges) (text : List ℕ) : Type 0 where
+  pub asked : Asked
+  pub words_mean_it : words_mean words ≡ Ok asked
+  pub bytes : List ℕ
+  pub was_read : WasRead old new bytes
+  pub image : ImageRecord
+  pub is_image : ImageOf bytes image
+  pub run_text : IsRunText image asked text
 
 -- the words ask for a run
 abbrev pub AskToRun : List (List ℕ) → Type 0
-AskToRun words = (steps : ℕ) × (words_mean words ≡ Ok steps)
+AskToRun words = (asked : Asked) × (words_mean words ≡ Ok asked)
+
+-- The words ask for a run that the image in the source refuses.
+pub record IsRefused (words : List (List ℕ)) (old new : Edges) (kind : UsageKind) : Type 0 where
+  pub asked : Asked
+  pub words_mean_it : words_mean words ≡ Ok asked
+  pub bytes : List ℕ
+  pub was_read : WasRead old new bytes
+  pub image : ImageRecord
+  pub is_image : ImageOf bytes image
+  pub refused : refusal image asked ≡ Some kind
 
 -- out is as before
 abbrev pub IsUntouched : Edges → Edges → Type 0
@@ -95,10 +122,10 @@ IsUntouched old new = new.held ≡ old.held
 abbrev pub IsAnswer : List (List ℕ) → Edges → Edges → Status → Type 0
 IsAnswer words old new Done = (text : List ℕ) × IsReport words old new text × Grows old.held new.held text
 IsAnswer words old new Memory = IsUntouched old new
-IsAnswer words old new (Usage kind) = (words_mean words ≡ Err kind) × (new.left ≡ old.left) × IsUntouched old new
+IsAnswer words old new (Usage kind) = (((words_mean words ≡ Err kind) × (new.left ≡ old.left)) ⊎ IsRefused words old new kind) × IsUntouched old new
 IsAnswer words old new ReadFault = AskToRun words × Rose old.reads_failed new.reads_failed × IsUntouched old new
 IsAnswer words old new WriteFault = (text : List ℕ) × IsReport words old new text × GrowsByFront old.held new.held text × Rose old.writes_failed new.writes_failed
-IsAnswer words old new (Image fault) = AskToRun words × ((bytes : List ℕ) × (length bytes ≤ most_bytes) × Gave old.left new.left bytes × IsEmptied new.left × IsFaultOf bytes fault) × IsUntouched old new
+IsAnswer words old new (Image fault) = AskToRun words × ((bytes : List ℕ) × WasRead old new bytes × FirstFault bytes fault) × IsUntouched old new
 IsAnswer words old new TooLong = AskToRun words × ((bytes : List ℕ) × (length bytes ≡ most_bytes + 1) × Gave old.left new.left bytes) × IsUntouched old new
 
 -- out took a text, or a front of it where a write failed
@@ -111,32 +138,27 @@ Takes old new text ReadFault = ⊥
 Takes old new text (Image fault) = ⊥
 Takes old new text TooLong = ⊥
 
--- what these bytes and steps lead to
-abbrev pub IsAnswerTo : List ℕ → ℕ → Edges → Edges → Status → Type 0
-IsAnswerTo bytes steps old new Done = (text : List ℕ) × IsRunText bytes steps text × Takes old new text Done
-IsAnswerTo bytes steps old new WriteFault = (text : List ℕ) × IsRunText bytes steps text × Takes old new text WriteFault
-IsAnswerTo bytes steps old new Memory = IsUntouched old new
-IsAnswerTo bytes steps old new (Image fault) = IsFaultOf bytes fault × IsUntouched old new
-IsAnswerTo bytes steps old new (Usage kind) = ⊥
-IsAnswerTo bytes steps old new ReadFault = ⊥
-IsAnswerTo bytes steps old new TooLong = ⊥
+-- what an image leads to that is asked to run so
+abbrev pub IsAnswerOf : ImageRecord → Asked → Edges → Edges → Status → Type 0
+IsAnswerOf image asked old new Done = (text : List ℕ) × IsRunText image asked text × Takes old new text Done
+IsAnswerOf image asked old new WriteFault = (text : List ℕ) × IsRunText image asked text × Takes old new text WriteFault
+IsAnswerOf image asked old new Memory = IsUntouched old new
+IsAnswerOf image asked old new (Usage kind) = (refusal image asked ≡ Some kind) × IsUntouched old new
+IsAnswerOf image asked old new (Image fault) = ⊥
+IsAnswerOf image asked old new ReadFault = ⊥
+IsAnswerOf image asked old new TooLong = ⊥
+
+-- what bytes lead to that are asked to run so
+abbrev pub IsAnswerTo : List ℕ → Asked → Edges → Edges → Status → Type 0
+IsAnswerTo bytes asked old new status =
+    ((image : ImageRecord) × ImageOf bytes image × IsAnswerOf image asked old new status)
+    ⊎ ((fault : ImageFault) × FirstFault bytes fault × (status ≡ Image fault) × IsUntouched old new)
+    ⊎ ((status ≡ Memory) × IsUntouched old new)
 
 -- err got the line of the status, or a front of it where err failed
 abbrev pub Tells : Option (List ℕ) → Option (List ℕ) → ℕ → ℕ → Status → Type 0
 Tells held_old held_new failed_old failed_new status =
     Grows held_old held_new (status_line status) ⊎ (GrowsByFront held_old held_new (status_line status) × Rose failed_old failed_new)
-
--- The words ask for a run, and the source tells that these bytes are left of it.
-pub record Offers (words : List (List ℕ)) (old : Edges) (bytes : List ℕ) : Type 0 where
-  pub asked : AskToRun words
-  pub left : old.left ≡ Some bytes
-
--- no read failed in the call, and no write
-abbrev pub NoRead : Edges → Edges → Type 0
-NoRead old new = ¬ Rose old.reads_failed new.reads_failed
-
-abbrev pub NoWrite : Edges → Edges → Type 0
-NoWrite old new = ¬ Rose old.writes_failed new.writes_failed
 
 -- the status, or that memory ran out
 abbrev pub OrMemory : Status → Status → Type 0

@@ -1,10 +1,8 @@
 //! The program `m386`: it runs an image of a shared-memory machine of 80386 processors, and writes the report.
 #![tactic(auto)]
 
-mod alone;
-mod begin;
-mod lone_bus;
 mod perform;
+mod run;
 mod status;
 mod tell;
 #[cfg(test)]

@@ -1,21 +1,20 @@
 //! The work of a call: from its words and its input to its output.
-ghost use Rattle.std.specs.Prelude.{◌≡◌, ◌↔◌, ◌<◌, ◌≤◌, ℕ, List, IsTrue, IfOk, All, length, Option};
-ghost use Rattle.m386_image.specs.declared.fault.ImageFault.{ImageFault as FaultData};
+ghost use Rattle.std.specs.Prelude.{◌≡◌, ◌↔◌, ◌<◌, ◌≤◌, ℕ, List, All, length, Option};
+ghost use Rattle.m386_image.specs.Format.{IsValid};
 ghost use Rattle.m386_book.specs.declared.verdict.Verdict.{Verdict as VerdictData};
 ghost use Rattle.m386_trace.specs.Report.{report_text};
-ghost use Rattle.m386_image.specs.Format.{ImageOf};
-ghost use Rattle.m386.specs.Top.{IsAnswer, IsAnswerTo, IsFaultOf, IsFirstForm, IsJudged, Takes, at_edges, at_out};
-ghost use Rattle.m386.specs.Words.{texts};
+ghost use Rattle.m386.specs.Top.{IsAnswer, IsAnswerOf, IsAnswerTo, IsJudged, Takes, at_edges, at_out, count_of, excess};
+ghost use Rattle.m386.specs.Words.{texts, IsAsked};
 
-use crate::alone::run_alone;
-use crate::status::Status;
-use crate::words::read_words;
+use crate::run::run_image;
+use crate::status::{Status, UsageKind};
+use crate::words::{Asked, read_words};
 use m386_book::plain::plain_verdict;
 use m386_edge::failed::Failed;
 use m386_edge::reading::{ReadEnd, read_whole};
 use m386_edge::sink::Sink;
 use m386_edge::source::Source;
-use m386_image::fault::{ImageFault, ReadStop};
+use m386_image::fault::ReadStop;
 use m386_image::image::Image;
 use m386_image::reading::read_image;
 use m386_memory::ended::Ended;
@@ -26,28 +25,29 @@ use std::alloc::Global;
 /// The most bytes of an input.
 const MOST_BYTES: usize = 20_971_520;
 
-/// The bytes of the shortest image.
-const HEADER_BYTES: usize = 64;
+/// The most steps of all processors together.
+const MOST_STEPS: u64 = 262_144;
 
-/// Whether an image has the form that runs today.
-fn is_first_form(image: &Image) -> bool
-    ensures { IsTrue result ↔ IsFirstForm image.now }
+/// How many processors run.
+fn count_for(image: &Image, asked: Option<u8>) -> u8
+    ensures { result ≡ count_of image.now asked }
 {
-    image.cpus == 1 && image.gdt.limit == 0 && image.sections.as_slice().len() == 1
+    match asked {
+        None => image.cpus,
+        Some(count) => count,
+    }
 }
 
-/// The image that the bytes are, where it has the form that runs today.
-fn first_image(alloc: Global, bytes: &[u8]) -> Result<Image, ReadStop>
-    ensures ok { IfOk result (λ image. ImageOf bytes.now image × IsFirstForm image) }
-    ensures bad { (fault : FaultData) → result ≡ Err (ReadStop.Bad fault) → IsFaultOf bytes.now fault }
+/// Why so many processors with so many steps each are refused, of an image that has `has`.
+fn excess_of(has: u8, count: u8, steps: u32) -> Option<UsageKind>
+    ensures { result ≡ excess has count steps }
 {
-    if bytes.len() < HEADER_BYTES {
-        return Err(ReadStop::Bad(ImageFault::ShortHeader));
-    }
-    match read_image(alloc, bytes) {
-        Ok(image) if is_first_form(&image) => Ok(image),
-        Err(ReadStop::Memory) => Err(ReadStop::Memory),
-        _ => Err(ReadStop::Bad(ImageFault::Magic)),
+    if has < count {
+        Some(UsageKind::Cpus)
+    } else if MOST_STEPS < count as u64 * steps as u64 {
+        Some(UsageKind::Budget)
+    } else {
+        None
     }
 }
 
@@ -72,19 +72,33 @@ fn write_run<K: Sink>(image: &Image, ended: &Ended<Proc>, out: &mut K) -> Status
     }
 }
 
-/// Runs the image that the bytes are, and writes the report.
-fn run_bytes<K: Sink>(alloc: Global, bytes: &[u8], steps: u32, out: &mut K) -> Status
-    ensures { IsAnswerTo bytes.now steps (at_out (K.held out.old) (K.faults out.old)) (at_out (K.held out.new) (K.faults out.new)) result }
+/// Runs an image as it is asked to, and writes the report.
+fn run_asked<K: Sink>(alloc: Global, image: &Image, asked: &Asked, out: &mut K) -> Status
+    requires valid { IsValid image.now }
+    requires kept { IsAsked asked.now }
+    ensures { IsAnswerOf image.now asked.now (at_out (K.held out.old) (K.faults out.old)) (at_out (K.held out.new) (K.faults out.new)) result }
 {
-    let image = match first_image(alloc, bytes) {
+    let cpus = count_for(image, asked.cpus);
+    if let Some(kind) = excess_of(image.cpus, cpus, asked.steps) {
+        return Status::Usage(kind);
+    }
+    let Ok(ended) = run_image(alloc, image, cpus, asked.steps, &asked.order) else {
+        return Status::Memory;
+    };
+    write_run(image, &ended, out)
+}
+
+/// Runs the image that the bytes are as it is asked to, and writes the report.
+fn run_bytes<K: Sink>(alloc: Global, bytes: &[u8], asked: &Asked, out: &mut K) -> Status
+    requires { IsAsked asked.now }
+    ensures { IsAnswerTo bytes.now asked.now (at_out (K.held out.old) (K.faults out.old)) (at_out (K.held out.new) (K.faults out.new)) result }
+{
+    let image = match read_image(alloc, bytes) {
         Ok(image) => image,
         Err(ReadStop::Memory) => return Status::Memory,
         Err(ReadStop::Bad(fault)) => return Status::Image(fault),
     };
-    let Ok(ended) = run_alone(alloc, &image, steps) else {
-        return Status::Memory;
-    };
-    write_run(&image, &ended, out)
+    run_asked(alloc, &image, asked, out)
 }
 
 /// Does what the words ask for with what the source has.
@@ -99,8 +113,8 @@ pub fn perform<S: Source, K: Sink>(
         (at_edges (S.left source.new) (S.faults source.new) (K.held out.new) (K.faults out.new))
         result }
 {
-    let steps = match read_words(words) {
-        Ok(steps) => steps,
+    let asked = match read_words(words) {
+        Ok(asked) => asked,
         Err(kind) => return Status::Usage(kind),
     };
     let bytes = match read_whole(alloc, source, MOST_BYTES) {
@@ -109,5 +123,5 @@ pub fn perform<S: Source, K: Sink>(
         Err(ReadEnd::Failed) => return Status::ReadFault,
         Err(ReadEnd::TooLong) => return Status::TooLong,
     };
-    run_bytes(alloc, &bytes, steps, out)
+    run_bytes(alloc, &bytes, &asked, out)
 }

@@ -1,12 +1,14 @@
 //! The calls of the program: words and an input in, the report or the cause of its absence out.
-ghost use Rattle.std.specs.Prelude.{◌≡◌, ◌≤◌, ◌<◌, ℕ, List, Ok, Err, Some, length};
+ghost use Rattle.std.specs.Prelude.{◌≡◌, ◌≤◌, ◌<◌, ℕ, List, Ok, Err, Some, None, length};
+ghost use Rattle.m386_image.specs.Fault.{FirstFault};
 ghost use Rattle.m386_image.specs.Format.{ImageOf};
 ghost use Rattle.m386_image.specs.declared.fault.ImageFault.{ImageFault as FaultData};
 ghost use Rattle.m386_image.specs.declared.image.Image.{Image as ImageData};
 ghost use Rattle.m386_base.specs.Bus.{Rose};
-ghost use Rattle.m386.specs.Top.{IsAnswer, IsFaultOf, IsFirstForm, OrMemory, Tells, at_edges, most_bytes};
+ghost use Rattle.m386.specs.Top.{IsAnswer, OrMemory, Tells, at_edges, most_bytes, refusal};
 ghost use Rattle.m386.specs.Words.{texts, words_mean};
 ghost use Rattle.m386.specs.declared.status.UsageKind.{UsageKind as KindData};
+ghost use Rattle.m386.specs.declared.words.Asked.{Asked as AskedData};
 
 use crate::perform::perform;
 use crate::status::Status;
@@ -35,17 +37,22 @@ pub fn top_plain<S: Source, K: Sink, E: Sink>(
     // Words that are refused are refused by this name, whatever the input is.
     ensures usage { (kind : KindData) → words_mean (texts words.now) ≡ Err kind → OrMemory result (Status.Usage kind) }
     // Valid input with no fault counted is never refused.
-    ensures complete { (steps : ℕ) (bytes : List ℕ) (image : ImageData) → words_mean (texts words.now) ≡ Ok steps
-        → S.left source.old ≡ Some bytes → length bytes ≤ most_bytes → ImageOf bytes image → IsFirstForm image
+    ensures complete { (asked : AskedData) (bytes : List ℕ) (image : ImageData) → words_mean (texts words.now) ≡ Ok asked
+        → S.left source.old ≡ Some bytes → length bytes ≤ most_bytes → ImageOf bytes image → refusal image asked ≡ None
         → ¬ Rose (S.faults source.old) (S.faults source.new) → ¬ Rose (K.faults out.old) (K.faults out.new)
         → OrMemory result Status.Done }
-    // Input that is no image is refused by its fault.
-    ensures image { (steps : ℕ) (bytes : List ℕ) (fault : FaultData) → words_mean (texts words.now) ≡ Ok steps
-        → S.left source.old ≡ Some bytes → length bytes ≤ most_bytes → IsFaultOf bytes fault
+    // More than an image has, or than a run may take, is refused by its name.
+    ensures excess { (asked : AskedData) (bytes : List ℕ) (image : ImageData) (kind : KindData) → words_mean (texts words.now) ≡ Ok asked
+        → S.left source.old ≡ Some bytes → length bytes ≤ most_bytes → ImageOf bytes image → refusal image asked ≡ Some kind
+        → ¬ Rose (S.faults source.old) (S.faults source.new)
+        → OrMemory result (Status.Usage kind) }
+    // Input that is no image is refused by its first fault.
+    ensures image { (asked : AskedData) (bytes : List ℕ) (fault : FaultData) → words_mean (texts words.now) ≡ Ok asked
+        → S.left source.old ≡ Some bytes → length bytes ≤ most_bytes → FirstFault bytes fault
         → ¬ Rose (S.faults source.old) (S.faults source.new)
         → OrMemory result (Status.Image fault) }
     // Input that is too long is refused as such.
-    ensures too_long { (steps : ℕ) (bytes : List ℕ) → words_mean (texts words.now) ≡ Ok steps
+    ensures too_long { (asked : AskedData) (bytes : List ℕ) → words_mean (texts words.now) ≡ Ok asked
         → S.left source.old ≡ Some bytes → most_bytes < length bytes
         → ¬ Rose (S.faults source.old) (S.faults source.new)
         → OrMemory result Status.TooLong }
@@ -76,17 +83,22 @@ pub fn top<S: Source, K: Sink, E: Sink, G: Gate + Sync>(
     // Words that are refused are refused by this name, whatever the input is.
     ensures usage { (kind : KindData) → words_mean (texts words.now) ≡ Err kind → OrMemory result (Status.Usage kind) }
     // Valid input with no fault counted is never refused.
-    ensures complete { (steps : ℕ) (bytes : List ℕ) (image : ImageData) → words_mean (texts words.now) ≡ Ok steps
-        → S.left source.old ≡ Some bytes → length bytes ≤ most_bytes → ImageOf bytes image → IsFirstForm image
+    ensures complete { (asked : AskedData) (bytes : List ℕ) (image : ImageData) → words_mean (texts words.now) ≡ Ok asked
+        → S.left source.old ≡ Some bytes → length bytes ≤ most_bytes → ImageOf bytes image → refusal image asked ≡ None
         → ¬ Rose (S.faults source.old) (S.faults source.new) → ¬ Rose (K.faults out.old) (K.faults out.new)
         → OrMemory result Status.Done }
-    // Input that is no image is refused by its fault.
-    ensures image { (steps : ℕ) (bytes : List ℕ) (fault : FaultData) → words_mean (texts words.now) ≡ Ok steps
-        → S.left source.old ≡ Some bytes → length bytes ≤ most_bytes → IsFaultOf bytes fault
+    // More than an image has, or than a run may take, is refused by its name.
+    ensures excess { (asked : AskedData) (bytes : List ℕ) (image : ImageData) (kind : KindData) → words_mean (texts words.now) ≡ Ok asked
+        → S.left source.old ≡ Some bytes → length bytes ≤ most_bytes → ImageOf bytes image → refusal image asked ≡ Some kind
+        → ¬ Rose (S.faults source.old) (S.faults source.new)
+        → OrMemory result (Status.Usage kind) }
+    // Input that is no image is refused by its first fault.
+    ensures image { (asked : AskedData) (bytes : List ℕ) (fault : FaultData) → words_mean (texts words.now) ≡ Ok asked
+        → S.left source.old ≡ Some bytes → length bytes ≤ most_bytes → FirstFault bytes fault
         → ¬ Rose (S.faults source.old) (S.faults source.new)
         → OrMemory result (Status.Image fault) }
     // Input that is too long is refused as such.
-    ensures too_long { (steps : ℕ) (bytes : List ℕ) → words_mean (texts words.now) ≡ Ok steps
+    ensures too_long { (asked : AskedData) (bytes : List ℕ) → words_mean (texts words.now) ≡ Ok asked
         → S.left source.old ≡ Some bytes → most_bytes < length bytes
         → ¬ Rose (S.faults source.old) (S.faults source.new)
         → OrMemory result Status.TooLong }
