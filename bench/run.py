@@ -1,10 +1,11 @@
 #!/usr/bin/env python3
-"""Measures runs of a built m386: steps and cycles a second, report bytes a second, and peak memory per cycle.
+"""Measures runs of a built m386: cycles a second, report bytes a second, and peak memory per cycle.
 
 usage: run.py PROGRAM
 
-It builds nothing. The image is a long straight row of MOV EAX, number and MOV [address], EAX. For each count of steps it
-prints the best of three runs, with the report written to a file.
+It builds nothing. Two kinds of runs are measured: one processor on a long straight row of MOV EAX, number and
+MOV [address], EAX; and two processors, in the order round, that exchange EAX with one place in memory for ever (XCHG, JMP).
+For each count of steps of a processor it prints the best of three runs, with the report written to a file.
 """
 import os
 import struct
@@ -15,16 +16,24 @@ import time
 MEMORY = 0x100_0000
 CODE = 0x1000
 DATA = 0x80_0000
-COUNTS = [0, 1_000, 4_096, 16_384, 65_536]
+COUNTS = [0, 500, 4_096, 16_384, 65_536]
 
 
-def image(steps):
+def image(cpus, code):
+    header = b"M386" + struct.pack("<HBBIIHHIII", 1, cpus, 0, MEMORY, 0, 0, 0, 0, 0, 1)
+    starts = struct.pack("<I", CODE) * cpus + bytes(32 - 4 * cpus)
+    return header + starts + struct.pack("<II", CODE, len(code)) + bytes(code)
+
+
+def straight():
     code = bytearray()
-    for i in range((steps + 1) // 2):
+    for i in range(max(COUNTS) // 2):
         code += b"\xb8" + struct.pack("<I", i) + b"\xa3" + struct.pack("<I", DATA + 4 * i)
-    code += b"\xf4"
-    header = b"M386" + struct.pack("<HBBIIHHIII", 1, 1, 0, MEMORY, 0, 0, 0, 0, 0, 1)
-    return header + struct.pack("<I", CODE) + bytes(28) + struct.pack("<II", CODE, len(code)) + bytes(code)
+    return image(1, code + b"\xf4")
+
+
+def exchanges():
+    return image(2, b"\x87\x05" + struct.pack("<I", DATA) + b"\xeb\xf8")
 
 
 def run(program, data, steps):
@@ -47,22 +56,26 @@ def run(program, data, steps):
     return seconds, usage.ru_utime, cycles, size, usage.ru_maxrss * 1024
 
 
-def main():
-    program = os.path.abspath(sys.argv[1])
-    data = image(max(COUNTS))
+def measure(program, name, cpus, data):
+    print(name)
     print("steps     cycles    seconds  user     steps/s    cycles/s   report bytes/s  memory/cycle beyond the empty run")
     empty = None
     for steps in COUNTS:
-        best = min(run(program, data, steps) for _ in range(3))
-        seconds, user, cycles, size, memory = best
+        seconds, user, cycles, size, memory = min(run(program, data, steps) for _ in range(3))
         if empty is None:
             empty = memory
             print(f"{steps:<9} {cycles:<9} {seconds:<8.3f} {user:<8.3f} peak memory of the empty run: {memory} bytes")
             continue
         print(
-            f"{steps:<9} {cycles:<9} {seconds:<8.3f} {user:<8.3f} {steps / seconds:<10.0f} {cycles / seconds:<10.0f} "
+            f"{steps:<9} {cycles:<9} {seconds:<8.3f} {user:<8.3f} {cpus * steps / seconds:<10.0f} {cycles / seconds:<10.0f} "
             f"{size / seconds:<15.0f} {(memory - empty) / cycles:.1f}"
         )
+
+
+def main():
+    program = os.path.abspath(sys.argv[1])
+    measure(program, "one processor, straight code", 1, straight())
+    measure(program, "two processors, exchanges in a loop", 2, exchanges())
 
 
 main()
