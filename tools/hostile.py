@@ -17,7 +17,7 @@ import sys
 from collections import Counter
 
 REPORT = re.compile(
-    rb"m386 report 1\nmemory [0-9a-f]{8} cpus \d\n(c [0-7] [^\n]*\n)*(p [0-7] [^\n]*\n)+(t [^\n]*\n)*(clean|unclean [^\n]*)\n\Z"
+    rb"m386 report 1\nmemory [0-9a-f]{8} cpus \d\n(c [0-7] [^\n]*\n)*(p [0-7] [^\n]*\n)+(t [^\n]*\n)*(clean|unclean [^\n]*|unjudged)\n\Z"
 )
 USAGE = [b"1 Command", b"2 Line", b"3 Value", b"4 Cpus", b"5 Budget"]
 IMAGE = [
@@ -128,7 +128,12 @@ def words_to_try():
         ["run", "--order=round", "--steps=" + "0" * 100_000 + "3"], ["run", "--order=round", "--steps=٣"],
         ["run", "--order=round", "--", "--steps=3"], ["run", "--order=round", "-steps=3"],
         ["run", "--order=round", "--steps==3"], ["run", "--order=round", "--STEPS=3"],
-        ["run", "--order=round", "--cpus=1"], ["run", "--order=round", "--seed=1"],
+        ["run", "--order=round", "--cpus=1"], ["run", "--order=round", "--seed=1"], ["run", "--order=round", "--cpus=0"],
+        ["run", "--order=round", "--cpus=2"], ["run", "--order=round", "--cpus=8"], ["run", "--order=round", "--cpus=9"],
+        ["run", "--order=round", "--cpus="], ["run", "--cpus=1", "--cpus=1", "--order=round"], ["run", "--cpus", "1"],
+        ["run", "--order=seed", "--seed=0"], ["run", "--order=seed", "--seed=18446744073709551615"],
+        ["run", "--order=seed", "--seed=18446744073709551616"], ["run", "--order=seed", "--seed="],
+        ["run", "--order=round", "--seed=x"], ["run", "--seed=1", "--seed=2", "--order=seed"],
         ["run", "--order=round", "--steps=x", "--frob"], [long], ["run", long], ["run", "--order=" + long],
         ["run", "--order=round", "--steps=" + long], ["run"] + ["--steps=3"] * 1000, ["run"] + [""] * 1000, ["run"] + ["--steps=" + long] * 12,
         ["ü"], ["run", "--order=ründ"],
