@@ -247,7 +247,7 @@ fn two_processors_exchange(rt: HostRuntime) -> Result<(), Fail> {
         ("00001000", "000001b8"),
         ("00001004", "00058700"),
         ("00001004", "00058700"),
-        ("00001008", "00002000"),
+        ("00001008", "00000020"),
     ] {
         for cpu in ["0", "1"] {
             for part in ["c ", cpu, " m r . fetch 00 ", addr, " f ", value, "\n"] {
