@@ -1,0 +1,68 @@
+//! The operation that a source gives next.
+ghost use Rattle.std.specs.Prelude.{◌≡◌, ◌≤◌, ◌<◌, ℕ, List, ◌∷◌, [], ◌++◌, IfOk, IfErr, IfSome, None, length, Ok, Err, ◌⊎◌};
+ghost use Rattle.m386_decode.specs.Decoding.{WantsMore, Concludes, Concluded, BrokenOff, undefined_opcode_of, general_protection_of};
+
+use crate::decoded::Decoded;
+use crate::source::ByteSource;
+use arrayvec::ArrayVec;
+use m386_base::fault::{Break, Fault};
+use m386_opmap::outcome::Reading;
+use m386_opmap::reading::reading;
+
+/// The most bytes that an instruction has (PRM 17.2).
+const MOST: usize = 15;
+
+/// The exception for bytes that no operation begins with (PRM 9.8.6).
+fn undefined_opcode() -> Break
+    ensures { result ≡ undefined_opcode_of }
+{
+    Break::Fault(Fault {
+        vector: 6,
+        code: None,
+    })
+}
+
+/// The exception for an instruction of more than 15 bytes (PRM 9.8.13).
+fn general_protection() -> Break
+    ensures { result ≡ general_protection_of }
+{
+    Break::Fault(Fault {
+        vector: 13,
+        code: Some(0),
+    })
+}
+
+/// What the decoder answers where these bytes came, of which all but the last wanted more; `None` where they want more
+/// too.
+fn conclusion(bytes: &[u8]) -> Option<Result<Decoded, Break>>
+    requires few { length bytes.now ≤ 15 }
+    requires before { (front : List ℕ) × (last : ℕ) × (bytes.now ≡ front ++ last ∷ []) × WantsMore front }
+    ensures some { IfSome result (λ answer. Concludes bytes.now answer) }
+    ensures none { result ≡ None → WantsMore bytes.now }
+{
+    match reading(bytes) {
+        Reading::Spelled { op, len } => Some(Ok(Decoded { op, len: len as u8 })),
+        Reading::Refused { .. } => Some(Err(undefined_opcode())),
+        Reading::More => None,
+    }
+}
+
+/// The operation that the bytes of a source spell next, and how many bytes that are. It takes no byte behind it.
+///
+/// Of its own it answers #UD after the first byte after which no spelling begins so, and #GP(0) after 15 bytes that begin
+/// a spelling and have none, where it would ask for a sixteenth. Every other break is one that the source answered in this
+/// call, behind fewer than 15 bytes that begin a spelling and have none.
+pub fn decode<S: ByteSource>(source: &mut S) -> Result<Decoded, Break>
+    ensures ok { IfOk result (λ d. Concluded S.gave source.old source.new (Ok d)) }
+    ensures err { IfErr result (λ b. Concluded S.gave source.old source.new (Err b) ⊎ BrokenOff S.gave S.broke source.old source.new b) }
+    ensures newer { S.counts_newer source.new ≡ S.counts_newer source.old }
+{
+    let mut bytes = ArrayVec::<u8, MOST>::new();
+    while !bytes.is_full() {
+        bytes.push(source.next()?);
+        if let Some(answer) = conclusion(bytes.as_slice()) {
+            return answer;
+        }
+    }
+    Err(general_protection())
+}
