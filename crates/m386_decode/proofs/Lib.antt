@@ -1,1 +1,4 @@
 pub mod Concluding
+pub mod Exact
+pub mod Slices
+pub mod Some

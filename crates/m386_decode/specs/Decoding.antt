@@ -44,6 +44,14 @@ Concludes bytes (Err b) =
     ((length bytes ≤ 15) × IsRefused bytes × (b ≡ undefined_opcode_of))
     ⊎ ((length bytes ≡ 15) × WantsMore bytes × (b ≡ general_protection_of))
 
+-- The answer of a decoder's own that comes behind a front of these bytes.
+-- Own choice: docs/DECISIONS.md, "What the decoder answers"
+pub record IsAnswered (bytes : List ℕ) (answer : Result Decoded Break) : Type 0 where
+  pub front : List ℕ
+  pub rest : List ℕ
+  pub parts : bytes ≡ front ++ rest
+  pub concludes : Concludes front answer
+
 -- The source gave bytes behind which the decoder has this answer of its own, and gave no more.
 -- Own choice: docs/DECISIONS.md, "What the decoder answers"
 pub record Concluded {S : Type 0} (Gave : S → S → List ℕ → Type 0) (old new : S) (answer : Result Decoded Break) : Type 0 where
