@@ -1,11 +1,11 @@
 -- What a reading says of bytes of which all but the last want more.
-use Rattle.std.proofs.Common.{◌≡◌, ℕ, ◌+◌, ◌<◌, ◌≤◌, List, [], ◌∷◌, ◌++◌, length, take, drop, refl, sym, ◌∙◌, ap, arith, subst, ⊎_elim, append_assoc, length-append}
+use Rattle.std.proofs.Common.{◌≡◌, ℕ, ◌+◌, ◌<◌, ◌≤◌, List, [], ◌∷◌, ◌++◌, length, take, drop, sym, ◌∙◌, ap, arith, subst, ⊎_elim, append_assoc, length-append}
 use Rattle.std.proofs.lemmas.Bool.{cases_lt}
-use Rattle.std.proofs.lemmas.List.{take-append-drop, take-append-le, take_all, take_at}
+use Rattle.std.proofs.lemmas.List.{take-append-drop, take-append-le, take_all}
 use Rattle.std.proofs.lemmas.List.Elements.{All-nil}
 use Rattle.m386_opmap.specs.declared.op.Op.{Op}
 use Rattle.m386_opmap.specs.declared.outcome.Reading.{Reading}
-use Rattle.m386_opmap.specs.declared.outcome.Reading.TheVariants.{Spelled, More, Refused}
+use Rattle.m386_opmap.specs.declared.outcome.Reading.TheVariants.{Spelled, Refused}
 use Rattle.m386_opmap.specs.Spelling.{Spells, BeginsSpelling, HasNoSpelling, IsReadingOf}
 use Rattle.m386_opmap.proofs.Laws.{reading_is, reading_nothing}
 use Rattle.m386_decode.specs.Decoding.{WantsMore, IsRefused}

@@ -1,12 +1,12 @@
 -- Of the fronts of some bytes one at most has an answer of the decoder's own, and it has one.
-use Rattle.std.proofs.Common.{◌≡◌, ℕ, ◌+◌, ◌<◌, ◌≤◌, ◌⊎◌, inl, inr, List, [], ◌∷◌, ◌++◌, length, take, drop, Result, Ok, Err, refl, sym, ◌∙◌, ap, arith, subst, append_assoc, length-append}
+use Rattle.std.proofs.Common.{◌≡◌, ℕ, ◌+◌, ◌<◌, ◌≤◌, inl, inr, List, [], ◌∷◌, ◌++◌, length, take, drop, Result, Ok, Err, refl, sym, ◌∙◌, ap, arith, subst, append_assoc, length-append}
 use Rattle.std.proofs.lemmas.List.{append-nil, take-append-drop, take-append-le, take_at, nil_from_length}
 use Rattle.m386_base.specs.declared.fault.Break.{Break}
 use Rattle.m386_opmap.specs.declared.op.Op.{Op}
 use Rattle.m386_opmap.specs.Spelling.{Spells, BeginsSpelling, HasNoSpelling}
 use Rattle.m386_opmap.proofs.Laws.{no_longer_spelling, one_operation}
 use Rattle.m386_decode.specs.declared.decoded.Decoded.{Decoded}
-use Rattle.m386_decode.specs.Decoding.{WantsMore, IsRefused, IsDecoded, Concludes, undefined_opcode_of, general_protection_of}
+use Rattle.m386_decode.specs.Decoding.{WantsMore, IsRefused, IsDecoded, Concludes}
 use Rattle.m386_decode.proofs.Concluding.{begins_before}
 
 -- of two fronts of one list the shorter is a front of the longer
@@ -82,3 +82,37 @@ same_answer front rest other behind a b e few s t =
     let longer : other ≡ front ++ drop (length front) other = front_of_front front rest other behind e few in
     let C : List ℕ → Type 0 = λ x. Concludes x b in
     (one_answer front (drop (length front) other) a b s (subst C longer t)).1
+
+-- what stands at the front of bytes with no spelling has none
+none_before : (front rest : List ℕ) → HasNoSpelling (front ++ rest) → HasNoSpelling front
+none_before front rest none op spelling behind parts s =
+    none op spelling (behind ++ rest) (ap (λ x. x ++ rest) parts ∙ append_assoc spelling behind rest) s
+
+-- what stands at the front of bytes that want more wants more
+wanting_before : (front rest : List ℕ) → WantsMore (front ++ rest) → WantsMore front
+wanting_before front rest wants = (none_before front rest wants.0, begins_before front rest wants.1)
+
+-- what stands before the end of a spelling has none
+none_within : (op : Op) (front : List ℕ) (byte : ℕ) (rest : List ℕ) → Spells op (front ++ byte ∷ rest) → HasNoSpelling front
+none_within op front byte rest s other spelling behind parts t =
+    let join : front ++ byte ∷ rest ≡ spelling ++ (behind ++ byte ∷ rest) = ap (λ x. x ++ byte ∷ rest) parts ∙ append_assoc spelling behind (byte ∷ rest) in
+    let S : List ℕ → Type 0 = λ x. Spells op x in
+    let none : behind ++ byte ∷ rest ≡ [] = no_longer_spelling other op spelling (behind ++ byte ∷ rest) t (subst S join s) in
+    absurd (omega (arith, ap length none, length-append behind (byte ∷ rest)))
+
+refused_wanting : (front : List ℕ) (byte : ℕ) (rest : List ℕ) → IsRefused (front ++ byte ∷ rest) → WantsMore front
+refused_wanting front byte rest t =
+    let sizes : length front + length (byte ∷ rest) ≡ length t.front + 1 = omega (arith, ap length t.parts, length-append front (byte ∷ rest), length-append t.front (t.last ∷ [])) in
+    let before : t.front ≡ front ++ drop (length front) t.front = front_of_front front (byte ∷ rest) t.front (t.last ∷ []) t.parts (omega (arith, sizes)) in
+    let W : List ℕ → Type 0 = WantsMore in
+    wanting_before front (drop (length front) t.front) (subst W before t.before)
+
+shorter : (front : List ℕ) (byte : ℕ) (rest : List ℕ) → length (front ++ byte ∷ rest) ≤ 15 → length front < 15
+shorter front byte rest few = omega (arith, few, length-append front (byte ∷ rest))
+
+-- every shorter front of bytes with an answer wants more
+pub wants_more_before : (front : List ℕ) (byte : ℕ) (rest : List ℕ) (answer : Result Decoded Break) → Concludes (front ++ byte ∷ rest) answer → (length front < 15) × WantsMore front
+wants_more_before front byte rest (Ok d) s =
+    (shorter front byte rest s.0, (none_within d.op front byte rest s.1.1, record { op = d.op; rest = byte ∷ rest; spelled = s.1.1 }))
+wants_more_before front byte rest (Err b) (inl s) = (shorter front byte rest s.0, refused_wanting front byte rest s.1)
+wants_more_before front byte rest (Err b) (inr s) = (shorter front byte rest (omega (arith, s.0)), wanting_before front (byte ∷ rest) s.1)

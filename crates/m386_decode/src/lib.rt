@@ -7,3 +7,5 @@ pub mod decoded;
 pub mod laws;
 pub mod slice_source;
 pub mod source;
+#[cfg(test)]
+mod tests;

@@ -1,5 +1,5 @@
 -- The source gives a front of the bytes.
-use Rattle.std.proofs.Common.{List, ℕ, sym, subst, rules}
+use Rattle.std.proofs.Common.{List, ℕ, subst}
 use Rattle.m386_decode.proofs.Slices.{SliceOutcome, slice_outcome, exact, pauses, spelled}
 use Rattle.m386_decode.proofs.bytes.decode_bytes.Goals as goal
 use Rattle.m386_decode.proofs.bytes.decode_bytes.Goals.{After-decode}

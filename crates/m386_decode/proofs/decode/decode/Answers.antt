@@ -1,5 +1,5 @@
 -- Each byte that the source gives stands behind those before it.
-use Rattle.std.proofs.Common.{◌≡◌, ℕ, List, [], ◌∷◌, ◌++◌, ◌≤◌, length, rules, refl, sym, ap, ◌∙◌, arith, subst}
+use Rattle.std.proofs.Common.{ℕ, List, rules, refl, sym, ◌∙◌, subst}
 use Rattle.m386_decode.specs.Decoding.{WantsMore}
 use Rattle.m386_decode.proofs.Concluding.{wants_nothing}
 use Rattle.m386_decode.proofs.decode.decode.Goals as goal
