@@ -9,7 +9,7 @@ use m386_base::fault::{Break, Fault};
 use m386_opmap::outcome::Reading;
 use m386_opmap::reading::reading;
 
-/// The most bytes that an instruction has (PRM 17.2).
+/// The most bytes that an instruction has (PRM 9.8.13).
 const MOST: usize = 15;
 
 /// The exception for bytes that no operation begins with (PRM 9.8.6).
