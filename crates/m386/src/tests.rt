@@ -1,4 +1,6 @@
 //! What calls of the program answer, and what they write.
+mod several;
+
 ghost use Rattle.std.specs.Prelude.{◌≤◌};
 
 use crate::status::{Status, UsageKind};
@@ -205,128 +207,6 @@ fn reports_the_cycles_of_a_run(rt: HostRuntime) -> Result<(), Fail> {
         assert_eq!(rt; came.status, Status::Done, "{case}");
         assert_eq!(rt; came.out.bytes(), want.as_bytes(), "{case}");
         assert!(rt; came.err.bytes().is_empty(), "{case}");
-    }
-    Ok(())
-}
-
-/// The place of the count of processors, and of the first start.
-const CPUS: usize = 6;
-
-const STARTS: usize = 32;
-
-/// An image of so many bare processors, which all begin at 1000h, with other code.
-fn image_of_many(alloc: Global, cpus: u8, code: &[u8]) -> Result<Vec<u8>, Fail>
-    requires { cpus ≤ 8 }
-{
-    let mut bytes = image_of(alloc, code)?;
-    let Some(count) = bytes.get_mut(CPUS) else {
-        return Err(Fail::new("no header"));
-    };
-    *count = cpus;
-    for cpu in 0..cpus {
-        let Some(start) = bytes.get_mut(STARTS + 4 * cpu as usize + 1) else {
-            return Err(Fail::new("no header"));
-        };
-        *start = 0x10;
-    }
-    Ok(bytes)
-}
-
-/// MOV EAX, 1; XCHG [2000h], EAX.
-const EXCHANGE: [u8; 11] = [
-    0xb8, 0x01, 0x00, 0x00, 0x00, 0x87, 0x05, 0x00, 0x20, 0x00, 0x00,
-];
-
-#[test]
-fn two_processors_exchange(rt: HostRuntime) -> Result<(), Fail> {
-    let image = image_of_many(rt.alloc(), 2, &EXCHANGE)?;
-    let words = ["run", "--order=round", "--steps=2"];
-    let came = call(rt.alloc(), &words, image, 16, NO_FAILURE)?;
-    let mut want = String::from_str(rt.alloc(), "m386 report 1\nmemory 00004000 cpus 2\n")?;
-    for (addr, value) in [
-        ("00001000", "000001b8"),
-        ("00001004", "00058700"),
-        ("00001004", "00058700"),
-        ("00001008", "00000020"),
-    ] {
-        for cpu in ["0", "1"] {
-            for part in ["c ", cpu, " m r . fetch 00 ", addr, " f ", value, "\n"] {
-                want.push_str(part)?;
-            }
-        }
-    }
-    want.push_str(
-        "c 0 m r . data 00 00002000 f 00000000\nc 0 m w + data 00 00002000 f 00000001\n",
-    )?;
-    want.push_str(
-        "c 1 m r . data 00 00002000 f 00000001\nc 1 m w + data 00 00002000 f 00000001\n",
-    )?;
-    for (begin, eax) in [("p 0", "00000000"), ("p 1", "00000001")] {
-        for part in [
-            begin,
-            " running steps 2 eip 0000100b efl 00000002 eax ",
-            eax,
-            " ",
-            OTHERS,
-            " pending none\n",
-        ] {
-            want.push_str(part)?;
-        }
-    }
-    want.push_str("clean\n")?;
-    assert_eq!(rt; came.status, Status::Done);
-    assert_eq!(rt; came.out.bytes(), want.as_bytes());
-    Ok(())
-}
-
-#[test]
-fn seed_decides_who_is_first(rt: HostRuntime) -> Result<(), Fail> {
-    // Of two processors the first number drawn names 0 from seed 1, the seed where none is given, and 1 from seed 3.
-    let rows: [(&[&str], &str); 3] = [
-        (
-            &["run", "--order=seed", "--steps=1"],
-            "m386 report 1\nmemory 00004000 cpus 2\nc 0 ",
-        ),
-        (
-            &["run", "--seed=3", "--order=seed", "--steps=1"],
-            "m386 report 1\nmemory 00004000 cpus 2\nc 1 ",
-        ),
-        (
-            &["run", "--cpus=1", "--order=seed", "--steps=1"],
-            "m386 report 1\nmemory 00004000 cpus 1\nc 0 ",
-        ),
-    ];
-    for (texts, begin) in rows {
-        let image = image_of_many(rt.alloc(), 2, &EXCHANGE)?;
-        let came = call(rt.alloc(), texts, image, 16, NO_FAILURE)?;
-        assert_eq!(rt; came.status, Status::Done, "{texts:?}");
-        assert!(rt; came.out.bytes().starts_with(begin.as_bytes()), "{texts:?}");
-    }
-    Ok(())
-}
-
-#[test]
-fn refuses_more_than_an_image_has(rt: HostRuntime) -> Result<(), Fail> {
-    let rows: [(u8, &[&str], Status, &str); 3] = [
-        (
-            1,
-            &["run", "--cpus=2", "--order=round"],
-            Status::Usage(UsageKind::Cpus),
-            "m386: usage fault 4 Cpus\n",
-        ),
-        (
-            8,
-            &["run", "--steps=65536", "--order=round"],
-            Status::Usage(UsageKind::Budget),
-            "m386: usage fault 5 Budget\n",
-        ),
-        (8, &["run", "--steps=2", "--order=round"], Status::Done, ""),
-    ];
-    for (cpus, texts, status, line) in rows {
-        let image = image_of_many(rt.alloc(), cpus, &EXCHANGE)?;
-        let came = call(rt.alloc(), texts, image, 16, NO_FAILURE)?;
-        assert_eq!(rt; came.status, status, "{texts:?}");
-        assert_eq!(rt; came.err.bytes(), line.as_bytes(), "{texts:?}");
     }
     Ok(())
 }
