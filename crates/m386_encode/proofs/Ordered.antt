@@ -1,0 +1,41 @@
+-- The order of spellings is one.
+use Rattle.std.proofs.Common.{◌≡◌, ℕ, ◌+◌, ◌<◌, ◌≤◌, List, [], ◌∷◌, length, Bool, true, false, ◌&&◌, ◌||◌, refl, sym, ◌∙◌, arith, ap, inl, inr, ltb, eqb, subst}
+use Rattle.std.specs.Prelude.{nat_lt, ◌==◌}
+use Rattle.std.proofs.lemmas.Bool.Decides.{nat_tests}
+use Rattle.m386_encode.specs.Order.{is_less, is_before}
+
+both : (a b c : Bool) → b ≡ true → c ≡ true → a || b && c ≡ true
+both true b c p q = refl
+both false true true p q = refl
+both false b false p q = cc
+both false false c p q = cc
+
+less_self : (xs : List ℕ) → is_less xs xs ≡ false
+unfolding is_less
+less_self [] = refl
+less_self (x ∷ xs) = grind (arith, nat_tests, less_self xs)
+
+pub less_trans : (xs ys zs : List ℕ) → is_less xs ys ≡ true → is_less ys zs ≡ true → is_less xs zs ≡ true
+unfolding is_less
+less_trans [] ys zs p q = cc
+less_trans (x ∷ xs) [] zs p q = cc
+less_trans (x ∷ xs) (y ∷ ys) [] p q = cc
+less_trans (x ∷ xs) (y ∷ ys) (z ∷ zs) p q = let next : is_less xs ys ≡ true → is_less ys zs ≡ true → is_less xs zs ≡ true = less_trans xs ys zs in grind (arith, nat_tests, next)
+
+pub before_self : (xs : List ℕ) → is_before xs xs ≡ false
+unfolding is_before
+before_self xs = grind (arith, nat_tests, less_self xs)
+
+pub before_trans : (xs ys zs : List ℕ) → is_before xs ys ≡ true → is_before ys zs ≡ true → is_before xs zs ≡ true
+unfolding is_before
+before_trans xs ys zs p q = let next : is_less xs ys ≡ true → is_less ys zs ≡ true → is_less xs zs ≡ true = less_trans xs ys zs in grind (arith, nat_tests, next)
+
+kept : (a b : Bool) → (a ≡ true → b ≡ true) → b ≡ false → a ≡ false
+kept true b f e = let t : b ≡ true = f refl in cc
+kept false b f e = refl
+
+-- what comes not before some bytes comes not before earlier ones
+pub before_kept : (other xs ys : List ℕ) → is_before xs ys ≡ true → is_before other ys ≡ false → is_before other xs ≡ false
+before_kept other xs ys p e = kept _ _ (λ q. before_trans other xs ys q p) e
+
+pub ruleset ordered = (before_self, before_kept)

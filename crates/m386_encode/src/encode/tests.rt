@@ -1,0 +1,53 @@
+//! Spellings compared with those of an assembler.
+
+use super::encode;
+use m386_opmap::outcome::Reading;
+use m386_opmap::reading::reading;
+use std::alloc::Global;
+use std::test::Fail;
+
+/// The bytes of a text in hexadecimal, between blanks.
+fn bytes_of(alloc: Global, text: &str) -> Result<Vec<u8>, Fail> {
+    let mut bytes = Vec::new(alloc);
+    for word in text.split_whitespace() {
+        bytes.push(u8::from_str_radix(word, 16)?)?;
+    }
+    Ok(bytes)
+}
+
+/// A spelling, and the shortest of the same operation.
+const CASES: &str = "05 01 00 00 00 = 83 c0 01
+83 c0 01 = 83 c0 01
+81 c0 01 00 00 00 = 83 c0 01
+8b c3 = 89 d8
+89 d8 = 89 d8
+8b 05 00 20 00 00 = a1 00 20 00 00
+c1 e0 01 = d1 e0
+3e 8b 84 24 04 00 00 00 = 3e 8b 44 24 04
+8b 04 65 00 00 00 00 = 8b 04 65 00 00 00 00
+8b 04 25 10 00 00 00 = a1 10 00 00 00
+8b 84 20 80 00 00 00 = 8b 80 80 00 00 00
+66 66 2e 26 f0 01 58 7f = 26 66 f0 01 58 7f
+f2 f3 a4 = f3 a4
+e9 03 00 00 00 = eb 03
+0f 84 fc ff ff ff = 74 fc
+68 ff ff ff ff = 6a ff
+df = d8
+0f 94 f8 = 0f 94 c0";
+
+#[test]
+fn the_shortest_spelling_is_written(rt: HostRuntime) -> Result<(), Fail> {
+    for line in CASES.lines() {
+        let (spelling, wanted) = line.split_once(" = ").ok_or("no spelling")?;
+        let spelling = bytes_of(rt.alloc(), spelling)?;
+        let wanted = bytes_of(rt.alloc(), wanted)?;
+        match reading(spelling.as_slice()) {
+            Reading::Spelled { op, .. } => match encode(&op) {
+                Some(bytes) => assert_eq!(rt; bytes.as_slice(), wanted.as_slice(), "{line}"),
+                None => panic!(rt; "{line}"),
+            },
+            _ => panic!(rt; "{line}"),
+        }
+    }
+    Ok(())
+}

@@ -1,0 +1,8 @@
+//! Operations to bytes.
+#![tactic(auto)]
+
+mod candidate;
+pub mod encode;
+mod order;
+mod parts;
+mod same;
