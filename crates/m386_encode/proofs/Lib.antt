@@ -1,3 +1,6 @@
 pub mod Below
+pub mod Marks
 pub mod Ordered
 pub mod Read
+pub mod Tails
+pub mod Values

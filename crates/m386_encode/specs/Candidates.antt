@@ -132,7 +132,7 @@ unfoldable pub operand_bytes : ℕ → Arg → List ℕ
 operand_bytes n (Imm v) = lowest n v
 operand_bytes n (Rel v) = lowest n v
 operand_bytes n (Mem a) = lowest n a.disp
-operand_bytes n (Far selector offset) = lowest (n - 2) offset ++ lowest 2 selector
+operand_bytes n (Far selector offset) = lowest (n - 2) offset ++ lowest (n - (n - 2)) selector
 operand_bytes n _ = []
 
 -- the bytes behind opcode and ModRM

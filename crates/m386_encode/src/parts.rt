@@ -321,8 +321,9 @@ fn bytes_of(count: usize, arg: Arg) -> Bytes
         Arg::Imm(number) | Arg::Rel(number) => write_number(&mut bytes, count, number),
         Arg::Mem(address) => write_number(&mut bytes, count, address.disp),
         Arg::Far { selector, offset } => {
-            write_number(&mut bytes, count.saturating_sub(2), offset);
-            write_number(&mut bytes, 2, u32::from(selector));
+            let first = count.saturating_sub(2);
+            write_number(&mut bytes, first, offset);
+            write_number(&mut bytes, count - first, u32::from(selector));
         }
         _ => {}
     }

@@ -1,0 +1,108 @@
+-- The prefixes of an operation say what it has.
+use Rattle.std.proofs.Common.{◌≡◌, ℕ, zero, suc, ◌+◌, ◌<◌, ◌≤◌, Bool, true, false, cond, List, [], ◌∷◌, ◌++◌, length, refl, sym, ◌∙◌, ap, arith, inl, inr, ◌⊎◌}
+use Rattle.std.specs.Prelude.{Option, Some, None, ◌==◌}
+use Rattle.m386_opmap.specs.declared.fields.Prefixes.{Prefixes}
+use Rattle.m386_opmap.specs.declared.op.Rep.{Rep}
+use Rattle.m386_opmap.specs.declared.op.Rep.TheVariants.{Once, Equal, NotEqual}
+use Rattle.m386_opmap.specs.Prefix.{is_prefix, prefixes_of, later, last_of, segment_named}
+use Rattle.m386_encode.specs.Candidates.{segment_prefix, rep_prefix, byte_if}
+
+-- the prefixes of four marks, rising
+abbrev pub marks : Option ℕ → Bool → Bool → Rep → List ℕ
+marks seg narrow lock rep = ((segment_prefix seg ++ byte_if narrow 0x66) ++ byte_if lock 0xf0) ++ rep_prefix rep
+
+-- a segment register or none
+abbrev pub IsSegment : Option ℕ → Type 0
+IsSegment None = Unit {0}
+IsSegment (Some n) = n < 6
+
+pub marks_say : (seg : Option ℕ) (narrow lock : Bool) (rep : Rep) → IsSegment seg → prefixes_of (marks seg narrow lock rep) ≡ record { seg = seg; narrow = narrow; lock = lock; rep = rep }
+unfolding prefixes_of
+marks_say None true true Once h = refl
+marks_say None true true Equal h = refl
+marks_say None true true NotEqual h = refl
+marks_say None true false Once h = refl
+marks_say None true false Equal h = refl
+marks_say None true false NotEqual h = refl
+marks_say None false true Once h = refl
+marks_say None false true Equal h = refl
+marks_say None false true NotEqual h = refl
+marks_say None false false Once h = refl
+marks_say None false false Equal h = refl
+marks_say None false false NotEqual h = refl
+marks_say (Some zero) true true Once h = refl
+marks_say (Some zero) true true Equal h = refl
+marks_say (Some zero) true true NotEqual h = refl
+marks_say (Some zero) true false Once h = refl
+marks_say (Some zero) true false Equal h = refl
+marks_say (Some zero) true false NotEqual h = refl
+marks_say (Some zero) false true Once h = refl
+marks_say (Some zero) false true Equal h = refl
+marks_say (Some zero) false true NotEqual h = refl
+marks_say (Some zero) false false Once h = refl
+marks_say (Some zero) false false Equal h = refl
+marks_say (Some zero) false false NotEqual h = refl
+marks_say (Some (suc zero)) true true Once h = refl
+marks_say (Some (suc zero)) true true Equal h = refl
+marks_say (Some (suc zero)) true true NotEqual h = refl
+marks_say (Some (suc zero)) true false Once h = refl
+marks_say (Some (suc zero)) true false Equal h = refl
+marks_say (Some (suc zero)) true false NotEqual h = refl
+marks_say (Some (suc zero)) false true Once h = refl
+marks_say (Some (suc zero)) false true Equal h = refl
+marks_say (Some (suc zero)) false true NotEqual h = refl
+marks_say (Some (suc zero)) false false Once h = refl
+marks_say (Some (suc zero)) false false Equal h = refl
+marks_say (Some (suc zero)) false false NotEqual h = refl
+marks_say (Some (suc (suc zero))) true true Once h = refl
+marks_say (Some (suc (suc zero))) true true Equal h = refl
+marks_say (Some (suc (suc zero))) true true NotEqual h = refl
+marks_say (Some (suc (suc zero))) true false Once h = refl
+marks_say (Some (suc (suc zero))) true false Equal h = refl
+marks_say (Some (suc (suc zero))) true false NotEqual h = refl
+marks_say (Some (suc (suc zero))) false true Once h = refl
+marks_say (Some (suc (suc zero))) false true Equal h = refl
+marks_say (Some (suc (suc zero))) false true NotEqual h = refl
+marks_say (Some (suc (suc zero))) false false Once h = refl
+marks_say (Some (suc (suc zero))) false false Equal h = refl
+marks_say (Some (suc (suc zero))) false false NotEqual h = refl
+marks_say (Some (suc (suc (suc zero)))) true true Once h = refl
+marks_say (Some (suc (suc (suc zero)))) true true Equal h = refl
+marks_say (Some (suc (suc (suc zero)))) true true NotEqual h = refl
+marks_say (Some (suc (suc (suc zero)))) true false Once h = refl
+marks_say (Some (suc (suc (suc zero)))) true false Equal h = refl
+marks_say (Some (suc (suc (suc zero)))) true false NotEqual h = refl
+marks_say (Some (suc (suc (suc zero)))) false true Once h = refl
+marks_say (Some (suc (suc (suc zero)))) false true Equal h = refl
+marks_say (Some (suc (suc (suc zero)))) false true NotEqual h = refl
+marks_say (Some (suc (suc (suc zero)))) false false Once h = refl
+marks_say (Some (suc (suc (suc zero)))) false false Equal h = refl
+marks_say (Some (suc (suc (suc zero)))) false false NotEqual h = refl
+marks_say (Some (suc (suc (suc (suc zero))))) true true Once h = refl
+marks_say (Some (suc (suc (suc (suc zero))))) true true Equal h = refl
+marks_say (Some (suc (suc (suc (suc zero))))) true true NotEqual h = refl
+marks_say (Some (suc (suc (suc (suc zero))))) true false Once h = refl
+marks_say (Some (suc (suc (suc (suc zero))))) true false Equal h = refl
+marks_say (Some (suc (suc (suc (suc zero))))) true false NotEqual h = refl
+marks_say (Some (suc (suc (suc (suc zero))))) false true Once h = refl
+marks_say (Some (suc (suc (suc (suc zero))))) false true Equal h = refl
+marks_say (Some (suc (suc (suc (suc zero))))) false true NotEqual h = refl
+marks_say (Some (suc (suc (suc (suc zero))))) false false Once h = refl
+marks_say (Some (suc (suc (suc (suc zero))))) false false Equal h = refl
+marks_say (Some (suc (suc (suc (suc zero))))) false false NotEqual h = refl
+marks_say (Some (suc (suc (suc (suc (suc zero)))))) true true Once h = refl
+marks_say (Some (suc (suc (suc (suc (suc zero)))))) true true Equal h = refl
+marks_say (Some (suc (suc (suc (suc (suc zero)))))) true true NotEqual h = refl
+marks_say (Some (suc (suc (suc (suc (suc zero)))))) true false Once h = refl
+marks_say (Some (suc (suc (suc (suc (suc zero)))))) true false Equal h = refl
+marks_say (Some (suc (suc (suc (suc (suc zero)))))) true false NotEqual h = refl
+marks_say (Some (suc (suc (suc (suc (suc zero)))))) false true Once h = refl
+marks_say (Some (suc (suc (suc (suc (suc zero)))))) false true Equal h = refl
+marks_say (Some (suc (suc (suc (suc (suc zero)))))) false true NotEqual h = refl
+marks_say (Some (suc (suc (suc (suc (suc zero)))))) false false Once h = refl
+marks_say (Some (suc (suc (suc (suc (suc zero)))))) false false Equal h = refl
+marks_say (Some (suc (suc (suc (suc (suc zero)))))) false false NotEqual h = refl
+marks_say (Some (suc (suc (suc (suc (suc (suc n))))))) narrow lock rep h = absurd (omega arith)
+
+named : (b : ℕ) → IsSegment (segment_named b)
+named b = grind (arith)
