@@ -10,7 +10,7 @@ both false true true p q = refl
 both false b false p q = cc
 both false false c p q = cc
 
-less_self : (xs : List ℕ) → is_less xs xs ≡ false
+pub less_self : (xs : List ℕ) → is_less xs xs ≡ false
 unfolding is_less
 less_self [] = refl
 less_self (x ∷ xs) = grind (arith, nat_tests, less_self xs)
@@ -37,5 +37,20 @@ kept false b f e = refl
 -- what comes not before some bytes comes not before earlier ones
 pub before_kept : (other xs ys : List ℕ) → is_before xs ys ≡ true → is_before other ys ≡ false → is_before other xs ≡ false
 before_kept other xs ys p e = kept _ _ (λ q. before_trans other xs ys q p) e
+
+-- a byte that is not greater, and then bytes that are not
+pub less_step : (x y : ℕ) (xs ys : List ℕ) → y ≤ x → is_less xs ys ≡ false → is_less (x ∷ xs) (y ∷ ys) ≡ false
+unfolding is_less
+less_step x y xs ys h e = grind (arith, nat_tests, e)
+
+-- bytes of the same length come not before others where they are not less
+pub not_before : (xs ys : List ℕ) → length xs ≡ length ys → is_less xs ys ≡ false → is_before xs ys ≡ false
+unfolding is_before
+not_before xs ys h e = grind (arith, nat_tests, e)
+
+-- longer bytes come not before others
+pub not_before_longer : (xs ys : List ℕ) → length ys < length xs → is_before xs ys ≡ false
+unfolding is_before
+not_before_longer xs ys h = grind (arith, nat_tests)
 
 pub ruleset ordered = (before_self, before_kept)

@@ -14,10 +14,7 @@ use Rattle.m386_opmap.specs.Forms.{bytes_in, number, extended}
 use Rattle.m386_opmap.specs.Operands.{operand_value, operand_length}
 use Rattle.m386_opmap.proofs.Numbers.{extended_whole}
 use Rattle.m386_encode.specs.Candidates.{lowest, is_middle, is_low, operand_bytes}
-use Rattle.m386_encode.proofs.Values.{Bytes, lowest_number, lowest_signed}
-
-later : (b : ℕ) (bs : List ℕ) → Bytes (b ∷ bs) → Bytes bs
-later b bs f k h = f (suc k) (omega arith)
+use Rattle.m386_encode.proofs.Values.{later, Bytes, lowest_number, lowest_signed}
 
 pub bytes_front : (xs ys : List ℕ) → Bytes (xs ++ ys) → Bytes xs
 bytes_front [] ys f k h = absurd (omega arith)

@@ -56,7 +56,7 @@ value_same f g w tail Cr0 p m o s = refl
 abbrev pub Bytes : List ℕ → Type 0
 Bytes bs = (k : ℕ) → k < length bs → get_or bs k 0 < 256
 
-later : (b : ℕ) (bs : List ℕ) → Bytes (b ∷ bs) → Bytes bs
+pub later : (b : ℕ) (bs : List ℕ) → Bytes (b ∷ bs) → Bytes bs
 later b bs f k h = f (suc k) (omega arith)
 
 -- the lowest bytes of the number that bytes make are these bytes

@@ -1,0 +1,179 @@
+-- What the ModRM byte names is named by the candidate too.
+use Rattle.std.proofs.Common.{◌≡◌, ◌≢◌, ℕ, zero, suc, ◌+◌, ◌-◌, ◌*◌, ◌/◌, ◌%◌, ◌^◌, ◌<◌, ◌≤◌, ◌⊎◌, inl, inr, Bool, true, false, cond, List, [], ◌∷◌, ◌++◌, length, get_or, refl, sym, ◌∙◌, ap, arith, subst, ◌&&◌, not}
+use Rattle.std.specs.Prelude.{Option, Some, None, ◌==◌}
+use Rattle.std.proofs.lemmas.Bool.{cases_Bool, and_parts, eqb-true}
+use Rattle.std.proofs.lemmas.Bool.Decides.{nat_tests}
+use Rattle.m386_base.specs.declared.number.Width.TheVariants.{W8, W16, W32}
+use Rattle.m386_opmap.specs.declared.op.Addr.{Addr}
+use Rattle.m386_opmap.specs.declared.op.Arg.{Arg}
+use Rattle.m386_opmap.specs.declared.op.Arg.TheVariants.{Reg, Mem}
+use Rattle.m386_opmap.specs.Forms.{Form, absent, register, based, indexed, top, middle, low, number, displacement, displacement_length, base_of, index_of, scale_of}
+use Rattle.m386_encode.specs.Candidates.{lowest, base, mode_of, index, scale, address_bytes, place_bytes}
+use Rattle.m386_encode.specs.Order.{is_before, is_less}
+use Rattle.m386_encode.proofs.Ordered.{less_self, less_step, not_before, not_before_longer}
+use Rattle.m386_encode.proofs.Values.{later, Bytes, lowest_number, lowest_signed}
+
+-- an address from its parts
+abbrev memory : Option ℕ → Option ℕ → Option ℕ → ℕ → ℕ → Arg
+memory seg b i k disp = Mem (record { seg = seg; base = b; index = i; scale = k; disp = disp })
+
+register_at : (seg : Option ℕ) (mid n : ℕ) → mid < 8 → n < 8 → Form seg ((192 + 8 * mid + n) ∷ []) mid (Some (Reg n))
+register_at seg mid n hm hn =
+    let m : ℕ = 192 + 8 * mid + n in
+    let em : middle m ≡ mid = omega arith in
+    let en : low m ≡ n = omega arith in
+    let P : ℕ → Type 0 = λ y. Form seg (m ∷ []) y (Some (Reg n)) in
+    let Q : ℕ → Type 0 = λ z. Form seg (m ∷ []) (middle m) (Some (Reg z)) in
+    subst P em (subst Q en (register m (omega arith)))
+
+based_at : (seg : Option ℕ) (t mid b : ℕ) (ds : List ℕ) → t < 3 → mid < 8 → b < 8 → b ≢ 4 → length ds ≡ displacement_length t b →
+    Form seg ((64 * t + 8 * mid + b) ∷ ds) mid (Some (memory seg (base_of t b) None 1 (displacement ds)))
+based_at seg t mid b ds ht hm hb n h =
+    let m : ℕ = 64 * t + 8 * mid + b in
+    let et : top m ≡ t = omega arith in
+    let em : middle m ≡ mid = omega arith in
+    let eb : low m ≡ b = omega arith in
+    let size : length ds ≡ displacement_length (top m) (low m) = h ∙ ap (λ x. displacement_length x b) (sym et) ∙ ap (λ x. displacement_length (top m) x) (sym eb) in
+    let P : ℕ → Type 0 = λ x. Form seg (m ∷ ds) mid (Some (memory seg (base_of x b) None 1 (displacement ds))) in
+    let Q : ℕ → Type 0 = λ y. Form seg (m ∷ ds) y (Some (memory seg (base_of (top m) b) None 1 (displacement ds))) in
+    let R : ℕ → Type 0 = λ z. Form seg (m ∷ ds) (middle m) (Some (memory seg (base_of (top m) z) None 1 (displacement ds))) in
+    let f : R (low m) = based m ds (omega (arith, et)) (λ e. n (sym eb ∙ e)) size in
+    subst P et (subst Q em (subst R eb f))
+
+indexed_at : (seg : Option ℕ) (t mid s : ℕ) (ds : List ℕ) → t < 3 → mid < 8 → length ds ≡ displacement_length t (low s) →
+    Form seg ((64 * t + 8 * mid + 4) ∷ s ∷ ds) mid (Some (memory seg (base_of t (low s)) (index_of s) (scale_of s) (displacement ds)))
+indexed_at seg t mid s ds ht hm h =
+    let m : ℕ = 64 * t + 8 * mid + 4 in
+    let et : top m ≡ t = omega arith in
+    let em : middle m ≡ mid = omega arith in
+    let P : ℕ → Type 0 = λ x. Form seg (m ∷ s ∷ ds) mid (Some (memory seg (base_of x (low s)) (index_of s) (scale_of s) (displacement ds))) in
+    let Q : ℕ → Type 0 = λ y. Form seg (m ∷ s ∷ ds) y (Some (memory seg (base_of (top m) (low s)) (index_of s) (scale_of s) (displacement ds))) in
+    subst P et (subst Q em (indexed m s ds (omega (arith, et)) (omega arith) (h ∙ ap (λ x. displacement_length x (low s)) (sym et))))
+
+base_by : (c : Bool) (b : ℕ) → (c ≡ true → b ≡ 5) → b < 8 → base (cond c None (Some b)) ≡ b
+base_by true b f h = sym (f refl)
+base_by false b f h = omega arith
+
+base_back : (t b : ℕ) → b < 8 → base (base_of t b) ≡ b
+base_back t b h = base_by ((t == 0) && (b == 5)) b (λ e. eqb-true b 5 (and_parts (t == 0) (b == 5) e).1) h
+
+mode_by : (c : Bool) (t b : ℕ) → (c ≡ true → t ≡ 0) → t < 3 → mode_of (cond c None (Some b)) t ≡ t
+mode_by true t b f h = sym (f refl)
+mode_by false t b f h = omega arith
+
+mode_back : (t b : ℕ) → t < 3 → mode_of (base_of t b) t ≡ t
+mode_back t b h = mode_by ((t == 0) && (b == 5)) t b (λ e. eqb-true t 0 (and_parts (t == 0) (b == 5) e).0) h
+
+scale_back : (k : ℕ) → k < 4 → scale (2 ^ k) ≡ k
+scale_back zero h = refl
+scale_back (suc zero) h = refl
+scale_back (suc (suc zero)) h = refl
+scale_back (suc (suc (suc zero))) h = refl
+scale_back (suc (suc (suc (suc k)))) h = absurd (omega arith)
+
+displaced : (ds : List ℕ) → Bytes ds → lowest (length ds) (displacement ds) ≡ ds
+unfolding displacement lowest
+displaced [] f = refl
+displaced (d ∷ []) f = lowest_signed W32 d (f 0 (omega arith))
+displaced (d ∷ e ∷ ds) f = let one : (length (d ∷ e ∷ ds) == 1) ≡ false = grind (arith, nat_tests) in rw one (lowest_number (d ∷ e ∷ ds) f)
+
+displaced_by : (n : ℕ) (ds : List ℕ) → length ds ≡ n → Bytes ds → lowest n (displacement ds) ≡ ds
+displaced_by n ds h f = let P : ℕ → Type 0 = λ x. lowest x (displacement ds) ≡ ds in subst P h (displaced ds f)
+
+-- the bytes of an address without a SIB byte
+based_bytes : (seg : Option ℕ) (t mid b : ℕ) (ds : List ℕ) → t < 3 → b < 8 → b ≢ 4 → length ds ≡ displacement_length t b → Bytes ds →
+    place_bytes mid t (memory seg (base_of t b) None 1 (displacement ds)) ≡ (64 * t + 8 * mid + b) ∷ ds
+unfolding place_bytes address_bytes
+based_bytes seg t mid b ds ht hb n h f =
+    let four : (b == 4) ≡ false = grind (arith, nat_tests) in
+    rw (base_back t b hb, mode_back t b ht, four, displaced_by (displacement_length t b) ds h f) refl
+
+-- the bytes of an address with one
+indexed_bytes : (seg : Option ℕ) (t mid b i k : ℕ) (ds : List ℕ) → t < 3 → b < 8 → i < 8 → i ≢ 4 → k < 4 → length ds ≡ displacement_length t b → Bytes ds →
+    place_bytes mid t (memory seg (base_of t b) (Some i) (2 ^ k) (displacement ds)) ≡ (64 * t + 8 * mid + 4) ∷ (64 * k + 8 * i + b) ∷ ds
+unfolding place_bytes address_bytes
+indexed_bytes seg t mid b i k ds ht hb hi n hk h f =
+    let whole : i % 8 ≡ i = omega arith in
+    let four : (i == 4) ≡ false = grind (arith, nat_tests) in
+    rw (base_back t b hb, mode_back t b ht, whole, four, scale_back k hk, displaced_by (displacement_length t b) ds h f) refl
+
+-- the bytes of an address whose base is ESP
+stack_bytes : (seg : Option ℕ) (t mid : ℕ) (ds : List ℕ) → t < 3 → length ds ≡ displacement_length t 4 → Bytes ds →
+    place_bytes mid t (memory seg (base_of t 4) None 1 (displacement ds)) ≡ (64 * t + 8 * mid + 4) ∷ 36 ∷ ds
+unfolding place_bytes address_bytes
+stack_bytes seg t mid ds ht h f =
+    rw (base_back t 4 (omega arith), mode_back t 4 ht, displaced_by (displacement_length t 4) ds h f) refl
+
+-- What the ModRM byte names, named by the candidate, in bytes that come not after these.
+pub record Again (seg : Option ℕ) (mid : ℕ) (p : Arg) (bs : List ℕ) : Type 0 where
+  pub mode : ℕ
+  pub small : mode < 3
+  pub form : Form seg (place_bytes mid mode p) mid (Some p)
+  pub first : is_before bs (place_bytes mid mode p) ≡ false
+
+again : (seg : Option ℕ) (mid mode : ℕ) (p : Arg) (bs new : List ℕ) → mode < 3 → place_bytes mid mode p ≡ new → Form seg new mid (Some p) → is_before bs new ≡ false → Again seg mid p bs
+again seg mid mode p bs new h e f g =
+    let P : List ℕ → Type 0 = λ x. Form seg x mid (Some p) in
+    let Q : List ℕ → Type 0 = λ x. is_before bs x ≡ false in
+    record { mode = mode; small = h; form = subst P (sym e) f; first = subst Q (sym e) g }
+
+again_register : (seg : Option ℕ) (m mid : ℕ) → mid < 8 → mid ≤ middle m → m < 256 → top m ≡ 3 → Again seg mid (Reg (low m)) (m ∷ [])
+unfolding place_bytes is_less
+again_register seg m mid hm le b t =
+    let whole : low m % 8 ≡ low m = omega arith in
+    again seg mid 0 (Reg (low m)) (m ∷ []) ((192 + 8 * mid + low m) ∷ []) (omega arith) (rw whole refl) (register_at seg mid (low m) hm (omega arith))
+    (not_before (m ∷ []) ((192 + 8 * mid + low m) ∷ []) refl (less_step m (192 + 8 * mid + low m) [] [] (omega arith) refl))
+
+again_based : (seg : Option ℕ) (m mid : ℕ) (ds : List ℕ) → mid < 8 → mid ≤ middle m → Bytes (m ∷ ds) → top m ≢ 3 → low m ≢ 4 → length ds ≡ displacement_length (top m) (low m) →
+    Again seg mid (memory seg (base_of (top m) (low m)) None 1 (displacement ds)) (m ∷ ds)
+again_based seg m mid ds hm le f t n h =
+    let byte : m < 256 = f 0 (omega arith) in
+    let small : top m < 3 = omega (arith, t) in
+    let m' : ℕ = 64 * top m + 8 * mid + low m in
+    again seg mid (top m) (memory seg (base_of (top m) (low m)) None 1 (displacement ds)) (m ∷ ds) ((64 * top m + 8 * mid + low m) ∷ ds) small
+    (based_bytes seg (top m) mid (low m) ds small (omega arith) n h (later m ds f)) (based_at seg (top m) mid (low m) ds small hm (omega arith) n h)
+    (not_before (m ∷ ds) ((64 * top m + 8 * mid + low m) ∷ ds) refl (less_step m (64 * top m + 8 * mid + low m) ds ds (omega arith) (less_self ds)))
+
+indexed_by : (seg : Option ℕ) (m s mid : ℕ) (ds : List ℕ) (four low4 : Bool) → (middle s == 4) ≡ four → (low s == 4) ≡ low4 → mid < 8 → mid ≤ middle m → Bytes (m ∷ s ∷ ds) → top m ≢ 3 → low m ≡ 4 →
+    length ds ≡ displacement_length (top m) (low s) →
+    Again seg mid (memory seg (base_of (top m) (low s)) (cond four None (Some (middle s))) (cond four 1 (2 ^ top s)) (displacement ds)) (m ∷ s ∷ ds)
+indexed_by seg m s mid ds true false e e' hm le f t l h =
+    let byte : m < 256 = f 0 (omega arith) in
+    let small : top m < 3 = omega (arith, t) in
+    let n : low s ≢ 4 = λ z. (let y : (low s == 4) ≡ true = rw z refl in cc) in
+    again seg mid (top m) (memory seg (base_of (top m) (low s)) None 1 (displacement ds)) (m ∷ s ∷ ds) ((64 * top m + 8 * mid + low s) ∷ ds) small
+    (based_bytes seg (top m) mid (low s) ds small (omega arith) n h (later s ds (later m (s ∷ ds) f))) (based_at seg (top m) mid (low s) ds small hm (omega arith) n h)
+    (not_before_longer (m ∷ s ∷ ds) ((64 * top m + 8 * mid + low s) ∷ ds) (omega arith))
+indexed_by seg m s mid ds true true e e' hm le f t l h =
+    let byte : m < 256 = f 0 (omega arith) in
+    let small : top m < 3 = omega (arith, t) in
+    let z : low s ≡ 4 = eqb-true (low s) 4 e' in
+    let i : middle s ≡ 4 = eqb-true (middle s) 4 e in
+    let h4 : length ds ≡ displacement_length (top m) 4 = h ∙ ap (λ x. displacement_length (top m) x) z in
+    let P : ℕ → Type 0 = λ x. Again seg mid (memory seg (base_of (top m) x) None 1 (displacement ds)) (m ∷ s ∷ ds) in
+    subst P (sym z) (again seg mid (top m) (memory seg (base_of (top m) 4) None 1 (displacement ds)) (m ∷ s ∷ ds) ((64 * top m + 8 * mid + 4) ∷ 36 ∷ ds) small
+    (stack_bytes seg (top m) mid ds small h4 (later s ds (later m (s ∷ ds) f))) (indexed_at seg (top m) mid 36 ds small hm h4)
+    (not_before (m ∷ s ∷ ds) ((64 * top m + 8 * mid + 4) ∷ 36 ∷ ds) refl (less_step m (64 * top m + 8 * mid + 4) (s ∷ ds) (36 ∷ ds) (omega arith) (less_step s 36 ds ds (omega arith) (less_self ds)))))
+indexed_by seg m s mid ds false low4 e e' hm le f t l h =
+    let byte : m < 256 = f 0 (omega arith) in
+    let second : s < 256 = f 1 (omega arith) in
+    let small : top m < 3 = omega (arith, t) in
+    let n : middle s ≢ 4 = λ z. (let y : (middle s == 4) ≡ true = rw z refl in cc) in
+    let same : 64 * top s + 8 * middle s + low s ≡ s = omega arith in
+    let bytes : place_bytes mid (top m) (memory seg (base_of (top m) (low s)) (Some (middle s)) (2 ^ top s) (displacement ds)) ≡ (64 * top m + 8 * mid + 4) ∷ s ∷ ds =
+    indexed_bytes seg (top m) mid (low s) (middle s) (top s) ds small (omega arith) (omega arith) n (omega arith) h (later s ds (later m (s ∷ ds) f)) ∙ ap (λ x. (64 * top m + 8 * mid + 4) ∷ x ∷ ds) same in
+    let form : Form seg ((64 * top m + 8 * mid + 4) ∷ s ∷ ds) mid (Some (memory seg (base_of (top m) (low s)) (index_of s) (scale_of s) (displacement ds))) = indexed_at seg (top m) mid s ds small hm h in
+    let P : Bool → Type 0 = λ c. Form seg ((64 * top m + 8 * mid + 4) ∷ s ∷ ds) mid (Some (memory seg (base_of (top m) (low s)) (cond c None (Some (middle s))) (cond c 1 (2 ^ top s)) (displacement ds))) in
+    again seg mid (top m) (memory seg (base_of (top m) (low s)) (Some (middle s)) (2 ^ top s) (displacement ds)) (m ∷ s ∷ ds) ((64 * top m + 8 * mid + 4) ∷ s ∷ ds) small bytes (subst P e form)
+    (not_before (m ∷ s ∷ ds) ((64 * top m + 8 * mid + 4) ∷ s ∷ ds) refl (less_step m (64 * top m + 8 * mid + 4) (s ∷ ds) (s ∷ ds) (omega arith) (less_self (s ∷ ds))))
+
+-- what is named again, of what is named
+abbrev pub AgainOf : Option ℕ → ℕ → Option Arg → List ℕ → Type 0
+AgainOf seg mid None bs = Unit {0}
+AgainOf seg mid (Some p) bs = Again seg mid p bs
+
+pub place_again : (seg : Option ℕ) (bs : List ℕ) (old : ℕ) (place : Option Arg) (mid : ℕ) → mid < 8 → mid ≤ old → Bytes bs → Form seg bs old place → AgainOf seg mid place bs
+place_again seg _ _ _ mid hm le f absent = tt
+place_again seg _ _ _ mid hm le f (register m t) = again_register seg m mid hm le (f 0 (omega arith)) t
+place_again seg _ _ _ mid hm le f (based m ds t n h) = again_based seg m mid ds hm le f t n h
+place_again seg _ _ _ mid hm le f (indexed m s ds t l h) = indexed_by seg m s mid ds (middle s == 4) (low s == 4) refl refl hm le f t l h
