@@ -5,4 +5,5 @@ pub mod RowParts
 pub mod Places
 pub mod Read
 pub mod Tails
+pub mod Taken
 pub mod Values

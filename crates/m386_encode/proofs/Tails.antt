@@ -64,7 +64,7 @@ far_all n bs h f =
     let c : lowest n (number (take n bs)) ≡ take n bs = sym (ap (λ x. lowest n (number x)) twice) ∙ a in
     rw (c, b) (take-append-drop n bs)
 
-no_bytes : (v : Arg) → operand_bytes 0 v ≡ []
+pub no_bytes : (v : Arg) → operand_bytes 0 v ≡ []
 unfolding operand_bytes lowest
 no_bytes (Reg n) = refl
 no_bytes (Seg n) = refl
