@@ -1,9 +1,12 @@
 pub mod Below
 pub mod Marks
+pub mod Octets
 pub mod Ordered
 pub mod RowParts
 pub mod Places
 pub mod Read
 pub mod Tails
+pub mod Segments
 pub mod Taken
 pub mod Values
+pub mod Whole

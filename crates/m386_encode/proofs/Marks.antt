@@ -1,6 +1,7 @@
 -- The prefixes of an operation say what it has.
 use Rattle.std.proofs.Common.{◌≡◌, ℕ, zero, suc, ◌+◌, ◌<◌, ◌≤◌, Bool, true, false, cond, List, [], ◌∷◌, ◌++◌, length, refl, sym, ◌∙◌, ap, arith, inl, inr, ◌⊎◌}
-use Rattle.std.specs.Prelude.{Option, Some, None, ◌==◌}
+use Rattle.std.specs.Prelude.{Option, Some, None, ◌==◌, ◌&&◌, nat_lt, nat_le}
+use Rattle.std.specs.List.{list_all}
 use Rattle.m386_opmap.specs.declared.fields.Prefixes.{Prefixes}
 use Rattle.m386_opmap.specs.declared.op.Rep.{Rep}
 use Rattle.m386_opmap.specs.declared.op.Rep.TheVariants.{Once, Equal, NotEqual}
@@ -104,5 +105,95 @@ marks_say (Some (suc (suc (suc (suc (suc zero)))))) false false Equal h = refl
 marks_say (Some (suc (suc (suc (suc (suc zero)))))) false false NotEqual h = refl
 marks_say (Some (suc (suc (suc (suc (suc (suc n))))))) narrow lock rep h = absurd (omega arith)
 
-named : (b : ℕ) → IsSegment (segment_named b)
+pub named : (b : ℕ) → IsSegment (segment_named b)
 named b = grind (arith)
+
+-- the prefixes are bytes that are prefixes, and at most four
+pub marks_pass : (seg : Option ℕ) (narrow lock : Bool) (rep : Rep) → IsSegment seg →
+    list_all (λ b. is_prefix b && nat_lt b 256) (marks seg narrow lock rep) && nat_le (length (marks seg narrow lock rep)) 4 ≡ true
+unfolding is_prefix
+marks_pass None true true Once h = refl
+marks_pass None true true Equal h = refl
+marks_pass None true true NotEqual h = refl
+marks_pass None true false Once h = refl
+marks_pass None true false Equal h = refl
+marks_pass None true false NotEqual h = refl
+marks_pass None false true Once h = refl
+marks_pass None false true Equal h = refl
+marks_pass None false true NotEqual h = refl
+marks_pass None false false Once h = refl
+marks_pass None false false Equal h = refl
+marks_pass None false false NotEqual h = refl
+marks_pass (Some zero) true true Once h = refl
+marks_pass (Some zero) true true Equal h = refl
+marks_pass (Some zero) true true NotEqual h = refl
+marks_pass (Some zero) true false Once h = refl
+marks_pass (Some zero) true false Equal h = refl
+marks_pass (Some zero) true false NotEqual h = refl
+marks_pass (Some zero) false true Once h = refl
+marks_pass (Some zero) false true Equal h = refl
+marks_pass (Some zero) false true NotEqual h = refl
+marks_pass (Some zero) false false Once h = refl
+marks_pass (Some zero) false false Equal h = refl
+marks_pass (Some zero) false false NotEqual h = refl
+marks_pass (Some (suc zero)) true true Once h = refl
+marks_pass (Some (suc zero)) true true Equal h = refl
+marks_pass (Some (suc zero)) true true NotEqual h = refl
+marks_pass (Some (suc zero)) true false Once h = refl
+marks_pass (Some (suc zero)) true false Equal h = refl
+marks_pass (Some (suc zero)) true false NotEqual h = refl
+marks_pass (Some (suc zero)) false true Once h = refl
+marks_pass (Some (suc zero)) false true Equal h = refl
+marks_pass (Some (suc zero)) false true NotEqual h = refl
+marks_pass (Some (suc zero)) false false Once h = refl
+marks_pass (Some (suc zero)) false false Equal h = refl
+marks_pass (Some (suc zero)) false false NotEqual h = refl
+marks_pass (Some (suc (suc zero))) true true Once h = refl
+marks_pass (Some (suc (suc zero))) true true Equal h = refl
+marks_pass (Some (suc (suc zero))) true true NotEqual h = refl
+marks_pass (Some (suc (suc zero))) true false Once h = refl
+marks_pass (Some (suc (suc zero))) true false Equal h = refl
+marks_pass (Some (suc (suc zero))) true false NotEqual h = refl
+marks_pass (Some (suc (suc zero))) false true Once h = refl
+marks_pass (Some (suc (suc zero))) false true Equal h = refl
+marks_pass (Some (suc (suc zero))) false true NotEqual h = refl
+marks_pass (Some (suc (suc zero))) false false Once h = refl
+marks_pass (Some (suc (suc zero))) false false Equal h = refl
+marks_pass (Some (suc (suc zero))) false false NotEqual h = refl
+marks_pass (Some (suc (suc (suc zero)))) true true Once h = refl
+marks_pass (Some (suc (suc (suc zero)))) true true Equal h = refl
+marks_pass (Some (suc (suc (suc zero)))) true true NotEqual h = refl
+marks_pass (Some (suc (suc (suc zero)))) true false Once h = refl
+marks_pass (Some (suc (suc (suc zero)))) true false Equal h = refl
+marks_pass (Some (suc (suc (suc zero)))) true false NotEqual h = refl
+marks_pass (Some (suc (suc (suc zero)))) false true Once h = refl
+marks_pass (Some (suc (suc (suc zero)))) false true Equal h = refl
+marks_pass (Some (suc (suc (suc zero)))) false true NotEqual h = refl
+marks_pass (Some (suc (suc (suc zero)))) false false Once h = refl
+marks_pass (Some (suc (suc (suc zero)))) false false Equal h = refl
+marks_pass (Some (suc (suc (suc zero)))) false false NotEqual h = refl
+marks_pass (Some (suc (suc (suc (suc zero))))) true true Once h = refl
+marks_pass (Some (suc (suc (suc (suc zero))))) true true Equal h = refl
+marks_pass (Some (suc (suc (suc (suc zero))))) true true NotEqual h = refl
+marks_pass (Some (suc (suc (suc (suc zero))))) true false Once h = refl
+marks_pass (Some (suc (suc (suc (suc zero))))) true false Equal h = refl
+marks_pass (Some (suc (suc (suc (suc zero))))) true false NotEqual h = refl
+marks_pass (Some (suc (suc (suc (suc zero))))) false true Once h = refl
+marks_pass (Some (suc (suc (suc (suc zero))))) false true Equal h = refl
+marks_pass (Some (suc (suc (suc (suc zero))))) false true NotEqual h = refl
+marks_pass (Some (suc (suc (suc (suc zero))))) false false Once h = refl
+marks_pass (Some (suc (suc (suc (suc zero))))) false false Equal h = refl
+marks_pass (Some (suc (suc (suc (suc zero))))) false false NotEqual h = refl
+marks_pass (Some (suc (suc (suc (suc (suc zero)))))) true true Once h = refl
+marks_pass (Some (suc (suc (suc (suc (suc zero)))))) true true Equal h = refl
+marks_pass (Some (suc (suc (suc (suc (suc zero)))))) true true NotEqual h = refl
+marks_pass (Some (suc (suc (suc (suc (suc zero)))))) true false Once h = refl
+marks_pass (Some (suc (suc (suc (suc (suc zero)))))) true false Equal h = refl
+marks_pass (Some (suc (suc (suc (suc (suc zero)))))) true false NotEqual h = refl
+marks_pass (Some (suc (suc (suc (suc (suc zero)))))) false true Once h = refl
+marks_pass (Some (suc (suc (suc (suc (suc zero)))))) false true Equal h = refl
+marks_pass (Some (suc (suc (suc (suc (suc zero)))))) false true NotEqual h = refl
+marks_pass (Some (suc (suc (suc (suc (suc zero)))))) false false Once h = refl
+marks_pass (Some (suc (suc (suc (suc (suc zero)))))) false false Equal h = refl
+marks_pass (Some (suc (suc (suc (suc (suc zero)))))) false false NotEqual h = refl
+marks_pass (Some (suc (suc (suc (suc (suc (suc n))))))) narrow lock rep h = absurd (omega arith)

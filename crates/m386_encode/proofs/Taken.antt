@@ -112,6 +112,26 @@ pick_none true q x y z h = cc
 pick_none false true x y z h = cc
 pick_none false false x y z h = refl
 
+pick_tail : {X : Type 0} (p q : Bool) (x y z m : X) → (p ≡ true → q ≡ true → x ≡ m) → (p ≡ true → q ≡ false → y ≡ m) → (p ≡ false → z ≡ m) → cond p (cond q x y) z ≡ m
+pick_tail true true x y z m f g h = f refl refl
+pick_tail true false x y z m f g h = g refl refl
+pick_tail false q x y z m f g h = h refl
+
+either : (a b c : Bool) → (not a || not (b || c)) && (not b || not c) ≡ true → a ≡ true → (b ≡ false) × (c ≡ false)
+either true true c h e = cc
+either true false true h e = cc
+either true false false h e = (refl, refl)
+either false b c h e = cc
+
+either_second : (a b c : Bool) → (not a || not (b || c)) && (not b || not c) ≡ true → b ≡ true → c ≡ false
+either_second a b false h e = refl
+either_second true true true h e = cc
+either_second false true true h e = cc
+either_second a false true h e = cc
+
+has_tail : (w : Width) (x : Operand) → (operand_length w x == 0) ≡ false → is_tail x ≡ true
+has_tail w x h = elim (cases_Bool (is_tail x)) [ inl e ↦ e | inr e ↦ (let z : (operand_length w x == 0) ≡ true = rw (no_tail w x e) refl in cc) ]
+
 empty : (bs : List ℕ) → length bs ≡ 0 → bs ≡ []
 empty [] h = refl
 empty (b ∷ bs) h = absurd (omega arith)
@@ -181,9 +201,9 @@ module _ (f : Fields) (w : Width) (bs : List ℕ) (r : Row) (sh : is_placed r �
   opcode_taken k h =
       pick (is_low r.first) (is_low r.second) _ _ _ f.opcode
       (λ e. let v = value_first (not_absent is_low refl r.first e) in
-          let s : register (get_or its 0 args.Cr0) ≡ f.opcode % 8 = ap register (at_first v.0 v.1) ∙ low_said f w bs r.first v.0 e v.1 in omega (arith, s, k))
+      let s : register (get_or its 0 args.Cr0) ≡ f.opcode % 8 = ap register (at_first v.0 v.1) ∙ low_said f w bs r.first v.0 e v.1 in omega (arith, s, k))
       (λ e. let n = not_absent is_low refl r.second e in let v = value_second n in
-          let s : register (get_or its 1 args.Cr0) ≡ f.opcode % 8 = ap register (at_second (order n) v.0 v.1) ∙ low_said f w bs r.second v.0 e v.1 in omega (arith, s, k))
+      let s : register (get_or its 1 args.Cr0) ≡ f.opcode % 8 = ap register (at_second (order n) v.0 v.1) ∙ low_said f w bs r.second v.0 e v.1 in omega (arith, s, k))
       h
 
   pub opcode_free : is_low r.first || is_low r.second ≡ false → opcode r its ≡ r.low / 8
@@ -217,3 +237,23 @@ module _ (f : Fields) (w : Width) (bs : List ℕ) (r : Row) (sh : is_placed r �
 
   tail_nothing : (v : Arg) → length bs ≡ 0 → operand_bytes 0 v ≡ bs
   tail_nothing v h = no_bytes v ∙ sym (empty bs h)
+
+  -- the bytes behind opcode and ModRM
+  pub tail_taken : is_single r ≡ true → length bs ≡ operand_length w r.first + operand_length w r.second + operand_length w r.third → Bytes bs → tail_bytes r w its ≡ bs
+  unfolding tail_bytes
+  tail_taken single h b =
+      pick_tail (operand_length w r.first == 0) (operand_length w r.second == 0) _ _ _ bs
+      (λ p q. let z : operand_length w r.first ≡ 0 = eqb-true _ 0 p in let y : operand_length w r.second ≡ 0 = eqb-true _ 0 q in
+      elim (cases_Bool (is_tail r.third)) [
+        | inl t ↦ (let n = not_absent is_tail refl r.third t in let v = value_third n in let u = value_second (order_third n) in let x = value_first (order (order_third n)) in
+            ap (λ i. operand_bytes (operand_length w r.third) i) (item_third _ _ _ x.0 u.0 v.0 x.1 u.1 v.1) ∙ tail_by r.third v.0 (omega (arith, h, z, y)) b v.1)
+        | inr t ↦ (let e : operand_length w r.third ≡ 0 = no_tail w r.third t in ap (λ n. operand_bytes n (get_or its 2 args.Cr0)) e ∙ tail_nothing (get_or its 2 args.Cr0) (omega (arith, h, z, y, e)))
+      ])
+      (λ p q. let z : operand_length w r.first ≡ 0 = eqb-true _ 0 p in
+      let t = has_tail w r.second q in let e : operand_length w r.third ≡ 0 = no_tail w r.third (either_second (is_tail r.first) (is_tail r.second) (is_tail r.third) single t) in
+      let n = not_absent is_tail refl r.second t in let v = value_second n in
+      ap (λ i. operand_bytes (operand_length w r.second) i) (at_second (order n) v.0 v.1) ∙ tail_by r.second v.0 (omega (arith, h, z, e)) b v.1)
+      (λ p. let t = has_tail w r.first p in let o = either (is_tail r.first) (is_tail r.second) (is_tail r.third) single t in
+      let y : operand_length w r.second ≡ 0 = no_tail w r.second o.0 in let e : operand_length w r.third ≡ 0 = no_tail w r.third o.1 in
+      let v = value_first (not_absent is_tail refl r.first t) in
+      ap (λ i. operand_bytes (operand_length w r.first) i) (at_first v.0 v.1) ∙ tail_by r.first v.0 (omega (arith, h, y, e)) b v.1)

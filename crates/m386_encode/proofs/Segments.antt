@@ -1,0 +1,119 @@
+-- The segment register of an operation is that of its memory operands.
+use Rattle.std.proofs.Common.{◌≡◌, ℕ, ◌<◌, Bool, true, false, ◌||◌, List, [], ◌∷◌, ◌++◌, refl, sym, ◌∙◌, ap, append_assoc, arith, subst, inl, inr}
+use Rattle.std.specs.Prelude.{Option, Some, None, option_to_list}
+use Rattle.m386_base.specs.declared.number.Width.{Width}
+use Rattle.m386_opmap.specs.declared.fields.Fields.{Fields}
+use Rattle.m386_opmap.specs.declared.op.Arg.{Arg}
+use Rattle.m386_opmap.specs.declared.op.Arg.TheVariants.{Reg, Seg, Imm, Mem, Rel, Far}
+use Rattle.m386_opmap.specs.declared.op.Arg.TheVariants as args
+use Rattle.m386_opmap.specs.declared.row.Operand.{Operand}
+use Rattle.m386_opmap.specs.declared.row.Operand.TheVariants.{Absent, E, M, R, G, S, Low, I, Ib, Iw, SignedByte, Jb, J, O, A, X, Table, Eax, Cl, Dx, One, Es, Cs, Ss, Ds, Fs, Gs, Cr0}
+use Rattle.m386_opmap.specs.Forms.{Form, absent, register, based, indexed}
+use Rattle.m386_opmap.specs.Operands.{operand_value, is_memory}
+use Rattle.m386_opmap.specs.Prefix.{last_of, later, segment_named}
+use Rattle.m386_encode.specs.Candidates.{segment}
+use Rattle.m386_encode.proofs.Values.{is_plain}
+use Rattle.m386_encode.proofs.Marks.{IsSegment, named}
+use Rattle.m386_encode.proofs.RowParts.{Names}
+use Rattle.m386_encode.proofs.Tails.{items}
+
+seg_first : (seg : Option ℕ) (a : Option Arg) (rest : List Arg) → Names seg a → is_memory a ≡ true → segment (option_to_list a ++ rest) ≡ seg
+unfolding segment
+seg_first seg None rest n h = cc
+seg_first seg (Some (Reg x)) rest n h = cc
+seg_first seg (Some (Seg x)) rest n h = cc
+seg_first seg (Some args.Cr0) rest n h = cc
+seg_first seg (Some (Imm x)) rest n h = cc
+seg_first seg (Some (Mem a)) rest n h = n
+seg_first seg (Some (Rel x)) rest n h = cc
+seg_first seg (Some (Far x y)) rest n h = cc
+
+seg_next : (P : Option ℕ → Type 0) (seg : Option ℕ) (a : Option Arg) (rest : List Arg) → Names seg a → P seg → P (segment rest) → P (segment (option_to_list a ++ rest))
+unfolding segment
+seg_next P seg None rest n s e = e
+seg_next P seg (Some (Reg x)) rest n s e = e
+seg_next P seg (Some (Seg x)) rest n s e = e
+seg_next P seg (Some args.Cr0) rest n s e = e
+seg_next P seg (Some (Imm x)) rest n s e = e
+seg_next P seg (Some (Mem a)) rest n s e = subst P (sym n) s
+seg_next P seg (Some (Rel x)) rest n s e = e
+seg_next P seg (Some (Far x y)) rest n s e = e
+
+right : (a b c : Option Arg) → items a b c ≡ option_to_list a ++ (option_to_list b ++ option_to_list c)
+right a b c = append_assoc (option_to_list a) (option_to_list b) (option_to_list c)
+
+pub seg_of_first : (seg : Option ℕ) (a b c : Option Arg) → Names seg a → is_memory a ≡ true → segment (items a b c) ≡ seg
+seg_of_first seg a b c n h = ap segment (right a b c) ∙ seg_first seg a (option_to_list b ++ option_to_list c) n h
+
+pub seg_of_second : (seg : Option ℕ) (a b c : Option Arg) → Names seg a → Names seg b → is_memory b ≡ true → segment (items a b c) ≡ seg
+seg_of_second seg a b c n m h =
+    let P : Option ℕ → Type 0 = λ s. s ≡ seg in
+    ap segment (right a b c) ∙ seg_next P seg a (option_to_list b ++ option_to_list c) n refl (seg_first seg b (option_to_list c) m h)
+
+seg_none : (seg : Option ℕ) (c : Option Arg) → Names seg c → IsSegment seg → IsSegment (segment (option_to_list c))
+unfolding segment
+seg_none seg None n s = tt
+seg_none seg (Some (Reg x)) n s = tt
+seg_none seg (Some (Seg x)) n s = tt
+seg_none seg (Some args.Cr0) n s = tt
+seg_none seg (Some (Imm x)) n s = tt
+seg_none seg (Some (Mem a)) n s = let P : Option ℕ → Type 0 = IsSegment in subst P (sym n) s
+seg_none seg (Some (Rel x)) n s = tt
+seg_none seg (Some (Far x y)) n s = tt
+
+pub seg_is : (seg : Option ℕ) (a b c : Option Arg) → Names seg a → Names seg b → Names seg c → IsSegment seg → IsSegment (segment (items a b c))
+seg_is seg a b c n m k s =
+    let P : Option ℕ → Type 0 = IsSegment in
+    subst P (sym (ap segment (right a b c))) (seg_next P seg a (option_to_list b ++ option_to_list c) n s (seg_next P seg b (option_to_list c) m s (seg_none seg c k s)))
+
+later_is : (x y : Option ℕ) → IsSegment x → IsSegment y → IsSegment (later x y)
+later_is x None a b = a
+later_is x (Some n) a b = b
+
+pub last_is : (ps : List ℕ) → IsSegment (last_of segment_named ps)
+last_is [] = tt
+last_is (p ∷ ps) = later_is (segment_named p) (last_of segment_named ps) (named p) (last_is ps)
+
+-- the same of all that a ModRM byte names, under the same segment register or of no memory
+pub form_under : (seg other : Option ℕ) (bs : List ℕ) (mid : ℕ) (place : Option Arg) (memory : Bool) → is_memory place ≡ memory → Form seg bs mid place → (memory ≡ true → seg ≡ other) → Form other bs mid place
+form_under seg other bs mid place true m f e = let P : Option ℕ → Type 0 = λ s. Form s bs mid place in subst P (e refl) f
+form_under seg other _ _ _ false m absent e = absent
+form_under seg other _ _ _ false m (register n t) e = register n t
+form_under seg other _ _ _ false m (based n ds t k h) e = cc
+form_under seg other _ _ _ false m (indexed n s ds t l h) e = cc
+
+pub form_names : (seg : Option ℕ) (bs : List ℕ) (mid : ℕ) (place : Option Arg) → Form seg bs mid place → Names seg place
+form_names seg _ _ _ absent = tt
+form_names seg _ _ _ (register m t) = tt
+form_names seg _ _ _ (based m ds t n h) = refl
+form_names seg _ _ _ (indexed m s ds t l h) = refl
+
+pub plain_memory_value : (f : Fields) (w : Width) (bs : List ℕ) (x : Operand) → is_plain x ≡ true → is_memory (operand_value f w bs x) ≡ true
+plain_memory_value f w bs Absent h = cc
+plain_memory_value f w bs E h = cc
+plain_memory_value f w bs M h = cc
+plain_memory_value f w bs R h = cc
+plain_memory_value f w bs G h = cc
+plain_memory_value f w bs S h = cc
+plain_memory_value f w bs Low h = cc
+plain_memory_value f w bs I h = cc
+plain_memory_value f w bs Ib h = cc
+plain_memory_value f w bs Iw h = cc
+plain_memory_value f w bs SignedByte h = cc
+plain_memory_value f w bs Jb h = cc
+plain_memory_value f w bs J h = cc
+plain_memory_value f w bs O h = refl
+plain_memory_value f w bs A h = cc
+plain_memory_value f w bs X h = refl
+plain_memory_value f w bs Table h = refl
+plain_memory_value f w bs Eax h = cc
+plain_memory_value f w bs Cl h = cc
+plain_memory_value f w bs Dx h = cc
+plain_memory_value f w bs One h = cc
+plain_memory_value f w bs Es h = cc
+plain_memory_value f w bs Cs h = cc
+plain_memory_value f w bs Ss h = cc
+plain_memory_value f w bs Ds h = cc
+plain_memory_value f w bs Fs h = cc
+plain_memory_value f w bs Gs h = cc
+plain_memory_value f w bs Cr0 h = cc

@@ -1,0 +1,66 @@
+-- A candidate spells the operation, where a spelling by the same row does.
+use Rattle.std.proofs.Common.{◌≡◌, ◌≢◌, ℕ, zero, suc, ◌+◌, ◌-◌, ◌*◌, ◌/◌, ◌%◌, ◌<◌, ◌≤◌, ◌⊎◌, inl, inr, Bool, true, false, cond, List, [], ◌∷◌, ◌++◌, length, get_or, refl, sym, ◌∙◌, ap, arith, subst, ◌&&◌, ◌||◌, not, nat_lt, nat_le}
+use Rattle.std.specs.Prelude.{Option, Some, None, ◌==◌, is_some, option_to_list, if◌then◌else◌}
+use Rattle.std.specs.List.{Contains}
+use Rattle.std.proofs.lemmas.Bool.{cases_Bool, and_parts, or_cases, eqb-true, ltb-true, ltb-false}
+use Rattle.m386_opmap.specs.declared.fields.Fields.{Fields}
+use Rattle.m386_opmap.specs.declared.op.Rep.{Rep}
+use Rattle.m386_opmap.specs.declared.op.Rep.TheVariants.{Once}
+use Rattle.m386_opmap.specs.declared.row.Row.{Row}
+use Rattle.m386_opmap.specs.Opcodes.{opcode_rows}
+use Rattle.m386_opmap.specs.Operands.{operand_value, has_modrm, width_of, operation, is_string}
+use Rattle.m386_opmap.specs.Rows.{Covers}
+use Rattle.m386_encode.specs.Candidates.{is_middle, is_low, opcode, middle}
+use Rattle.m386_encode.specs.Candidates.{key_bytes}
+use Rattle.m386_opmap.specs.Spelling.{opcode_bytes}
+use Rattle.m386_encode.proofs.RowParts.{is_placed, is_keyed}
+use Rattle.m386_encode.proofs.Taken.{its, middle_taken, middle_free, opcode_taken, opcode_free}
+
+-- the same operation from other fields that agree where they count
+pub same_operation : (r : Row) (f g : Fields) (tail : List ℕ) → g.prefixes.narrow ≡ f.prefixes.narrow → g.prefixes.lock ≡ f.prefixes.lock →
+    cond (is_string r.name) g.prefixes.rep Once ≡ cond (is_string r.name) f.prefixes.rep Once →
+    operand_value g (width_of r.size f.prefixes.narrow) tail r.first ≡ operand_value f (width_of r.size f.prefixes.narrow) tail r.first →
+    operand_value g (width_of r.size f.prefixes.narrow) tail r.second ≡ operand_value f (width_of r.size f.prefixes.narrow) tail r.second →
+    operand_value g (width_of r.size f.prefixes.narrow) tail r.third ≡ operand_value f (width_of r.size f.prefixes.narrow) tail r.third →
+    operation r g tail ≡ operation r f tail
+unfolding operation
+same_operation r f g tail n l p a b c = rw (n, l, p, a, b, c) refl
+
+-- a repetition that counts for a string operation alone
+pub same_rep : (string : Bool) (rep : Rep) → cond string (cond string rep Once) Once ≡ cond string rep Once
+same_rep true rep = refl
+same_rep false rep = refl
+
+-- the candidate's key with a ModRM byte
+pub key_selected : (f : Fields) (w : _) (bs : List ℕ) (r : Row) (sh : is_placed r ≡ true) (wanted : has_modrm r ≡ is_some f.place) → r.low / 8 ≡ r.high / 8 → r.low ≤ r.high → f.middle < 8 →
+    is_low r.first || is_low r.second ≡ false → Covers r (8 * f.opcode + f.middle) →
+    (opcode r (its f w bs r sh wanted) ≡ f.opcode) × (middle r (its f w bs r sh wanted) ≤ f.middle) × (middle r (its f w bs r sh wanted) < 8) × Covers r (8 * opcode r (its f w bs r sh wanted) + middle r (its f w bs r sh wanted))
+key_selected f w bs r sh wanted same rise k n c =
+    let o : opcode r (its f w bs r sh wanted) ≡ r.low / 8 = opcode_free f w bs r sh wanted n in
+    let is : r.low / 8 ≡ f.opcode = omega (arith, c.0, c.1, same) in
+    elim (cases_Bool (is_middle r.first || is_middle r.second)) [
+      | inl e ↦ (let m : middle r (its f w bs r sh wanted) ≡ f.middle = middle_taken f w bs r sh wanted k e in
+          (o ∙ is, omega (arith, m), omega (arith, m, k), (omega (arith, o, is, m, c.0), omega (arith, o, is, m, c.1))))
+      | inr e ↦ (let m : middle r (its f w bs r sh wanted) ≡ r.low % 8 = middle_free f w bs r sh wanted e in
+          (o ∙ is, omega (arith, m, is, c.0), omega (arith, m), (omega (arith, o, m), omega (arith, o, m, rise))))
+    ]
+
+-- the candidate's key without one
+pub key_whole : (f : Fields) (w : _) (bs : List ℕ) (r : Row) (sh : is_placed r ≡ true) (wanted : has_modrm r ≡ is_some f.place) → r.low % 8 ≡ 0 → r.low ≤ r.high →
+    (is_low r.first || is_low r.second ≡ true → r.low / 64 ≡ r.high / 64) → Covers r (8 * f.opcode) →
+    (opcode r (its f w bs r sh wanted) ≤ f.opcode) × (is_low r.first || is_low r.second ≡ true → opcode r (its f w bs r sh wanted) ≡ f.opcode) × Covers r (8 * opcode r (its f w bs r sh wanted))
+key_whole f w bs r sh wanted from rise span c =
+    elim (cases_Bool (is_low r.first || is_low r.second)) [
+      | inl e ↦ (let s = span e in let o : opcode r (its f w bs r sh wanted) ≡ f.opcode = opcode_taken f w bs r sh wanted (omega (arith, s, c.0, c.1)) e in
+          (omega (arith, o), (λ x. o), (omega (arith, o, c.0), omega (arith, o, c.1))))
+      | inr e ↦ (let o : opcode r (its f w bs r sh wanted) ≡ r.low / 8 = opcode_free f w bs r sh wanted e in
+          (omega (arith, o, c.0), (λ x. cc), (omega (arith, o, from), omega (arith, o, from, rise))))
+    ]
+
+key_by : (o : ℕ) (one : Bool) → (one ≡ false → o % 256 ≡ o - 3840) → cond one (o ∷ []) (15 ∷ (o % 256) ∷ []) ≡ cond one (o ∷ []) (15 ∷ (o - 3840) ∷ [])
+key_by o true f = refl
+key_by o false f = rw (f refl) refl
+
+-- the bytes of an opcode of the table
+pub key_bytes_are : (o : ℕ) → (o < 256) ⊎ ((3840 ≤ o) × (o < 4096)) → key_bytes o ≡ opcode_bytes o
+key_bytes_are o h = key_by o (nat_lt o 256) (λ e. elim h [ inl l ↦ absurd (omega (arith, ltb-false o 256 e, l)) | inr l ↦ omega (arith, l.0, l.1) ])
