@@ -1,3 +1,4 @@
+pub mod Assembled
 pub mod Below
 pub mod Marks
 pub mod Octets

@@ -1,11 +1,10 @@
 -- The prefixes of an operation say what it has.
-use Rattle.std.proofs.Common.{◌≡◌, ℕ, zero, suc, ◌+◌, ◌<◌, ◌≤◌, Bool, true, false, cond, List, [], ◌∷◌, ◌++◌, length, refl, sym, ◌∙◌, ap, arith, inl, inr, ◌⊎◌}
-use Rattle.std.specs.Prelude.{Option, Some, None, ◌==◌, ◌&&◌, nat_lt, nat_le}
+use Rattle.std.proofs.Common.{◌≡◌, ℕ, zero, suc, ◌<◌, Bool, true, false, List, ◌++◌, length, refl, arith}
+use Rattle.std.specs.Prelude.{Option, Some, None, ◌&&◌, nat_lt, nat_le}
 use Rattle.std.specs.List.{list_all}
-use Rattle.m386_opmap.specs.declared.fields.Prefixes.{Prefixes}
 use Rattle.m386_opmap.specs.declared.op.Rep.{Rep}
 use Rattle.m386_opmap.specs.declared.op.Rep.TheVariants.{Once, Equal, NotEqual}
-use Rattle.m386_opmap.specs.Prefix.{is_prefix, prefixes_of, later, last_of, segment_named}
+use Rattle.m386_opmap.specs.Prefix.{is_prefix, prefixes_of, segment_named}
 use Rattle.m386_encode.specs.Candidates.{segment_prefix, rep_prefix, byte_if}
 
 -- the prefixes of four marks, rising

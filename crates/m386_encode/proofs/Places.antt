@@ -1,14 +1,13 @@
 -- What the ModRM byte names is named by the candidate too.
-use Rattle.std.proofs.Common.{◌≡◌, ◌≢◌, ℕ, zero, suc, ◌+◌, ◌-◌, ◌*◌, ◌/◌, ◌%◌, ◌^◌, ◌<◌, ◌≤◌, ◌⊎◌, inl, inr, Bool, true, false, cond, List, [], ◌∷◌, ◌++◌, length, get_or, refl, sym, ◌∙◌, ap, arith, subst, ◌&&◌, not}
+use Rattle.std.proofs.Common.{◌≡◌, ◌≢◌, ℕ, zero, suc, ◌+◌, ◌*◌, ◌%◌, ◌^◌, ◌<◌, ◌≤◌, Bool, true, false, cond, List, [], ◌∷◌, length, refl, sym, ◌∙◌, ap, arith, subst, ◌&&◌}
 use Rattle.std.specs.Prelude.{Option, Some, None, ◌==◌}
-use Rattle.std.proofs.lemmas.Bool.{cases_Bool, and_parts, eqb-true}
+use Rattle.std.proofs.lemmas.Bool.{and_parts, eqb-true}
 use Rattle.std.proofs.lemmas.Bool.Decides.{nat_tests}
-use Rattle.m386_base.specs.declared.number.Width.TheVariants.{W8, W16, W32}
-use Rattle.m386_opmap.specs.declared.op.Addr.{Addr}
+use Rattle.m386_base.specs.declared.number.Width.TheVariants.{W32}
 use Rattle.m386_opmap.specs.declared.op.Arg.{Arg}
 use Rattle.m386_opmap.specs.declared.op.Arg.TheVariants.{Reg, Mem}
-use Rattle.m386_opmap.specs.Forms.{Form, absent, register, based, indexed, top, middle, low, number, displacement, displacement_length, base_of, index_of, scale_of}
-use Rattle.m386_encode.specs.Candidates.{lowest, base, mode_of, index, scale, address_bytes, place_bytes}
+use Rattle.m386_opmap.specs.Forms.{Form, absent, register, based, indexed, top, middle, low, displacement, displacement_length, base_of, index_of, scale_of}
+use Rattle.m386_encode.specs.Candidates.{lowest, base, mode_of, scale, address_bytes, place_bytes}
 use Rattle.m386_encode.specs.Order.{is_before, is_less}
 use Rattle.m386_encode.proofs.Ordered.{less_self, less_step, not_before, not_before_longer}
 use Rattle.m386_encode.proofs.Values.{later, Bytes, lowest_number, lowest_signed}

@@ -1,5 +1,5 @@
 -- What is read from bytes as a whole.
-use Rattle.std.proofs.Common.{◌≡◌, ℕ, List, [], ◌++◌, length, take, sym, ◌∙◌, subst, refl, arith, ap, Bool}
+use Rattle.std.proofs.Common.{◌≡◌, ℕ, List, [], ◌++◌, length, take, sym, subst, arith, ap, Bool}
 use Rattle.arrayvec.specs.ArrayVec.{ArrayVec}
 use Rattle.m386_base.specs.declared.number.Width.{Width}
 use Rattle.m386_opmap.specs.declared.name.Name.{Name}

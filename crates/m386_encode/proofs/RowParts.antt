@@ -1,23 +1,20 @@
 -- The parts of a candidate are those of a spelling by the same row.
-use Rattle.std.proofs.Common.{◌≡◌, ◌≢◌, ℕ, zero, suc, ◌+◌, ◌-◌, ◌*◌, ◌/◌, ◌%◌, ◌<◌, ◌≤◌, ◌⊎◌, inl, inr, Bool, true, false, cond, List, [], ◌∷◌, ◌++◌, length, get_or, refl, sym, ◌∙◌, ap, arith, subst, ◌&&◌, ◌||◌, not, nat_lt, nat_le}
-use Rattle.std.specs.Prelude.{Option, Some, None, ◌==◌, is_some, option_to_list, if◌then◌else◌}
+use Rattle.std.proofs.Common.{◌≡◌, ℕ, ◌+◌, ◌/◌, ◌%◌, ◌<◌, Bool, true, false, List, refl, arith, ◌&&◌, ◌||◌, not, nat_lt, nat_le}
+use Rattle.std.specs.Prelude.{Option, Some, ◌==◌, if◌then◌else◌}
 use Rattle.std.specs.List.{list_all, Contains}
-use Rattle.std.proofs.lemmas.Bool.{cases_Bool, and_parts, or_cases, eqb-true, ltb-true, leb-true, not-true}
 use Rattle.std.proofs.lemmas.List.Sums.{AllPass-from_list_all}
 use Rattle.std.proofs.lemmas.List.Elements.{All-contains}
 use Rattle.m386_base.specs.declared.number.Width.{Width}
 use Rattle.m386_opmap.specs.declared.fields.Fields.{Fields}
 use Rattle.m386_opmap.specs.declared.op.Arg.{Arg}
-use Rattle.m386_opmap.specs.declared.op.Arg.TheVariants.{Reg, Seg, Imm, Mem, Rel, Far}
-use Rattle.m386_opmap.specs.declared.op.Arg.TheVariants as args
+use Rattle.m386_opmap.specs.declared.op.Arg.TheVariants.{Reg, Seg, Mem}
 use Rattle.m386_opmap.specs.declared.row.Operand.{Operand}
 use Rattle.m386_opmap.specs.declared.row.Operand.TheVariants.{Absent, E, M, R, G, S, Low, I, Ib, Iw, SignedByte, Jb, J, O, A, X, Table, Eax, Cl, Dx, One, Es, Cs, Ss, Ds, Fs, Gs, Cr0}
 use Rattle.m386_opmap.specs.declared.row.Row.{Row}
 use Rattle.m386_opmap.specs.Opcodes.{opcode_rows}
-use Rattle.m386_opmap.specs.Operands.{operand_value, operand_length, has_modrm, tail_length, operation}
-use Rattle.m386_encode.specs.Candidates.{operand, register, is_middle, is_low, is_place, segment, opcode, middle}
+use Rattle.m386_opmap.specs.Operands.{operand_value, has_modrm, tail_length}
+use Rattle.m386_encode.specs.Candidates.{register, is_middle, is_low, is_place}
 use Rattle.m386_encode.proofs.Values.{is_plain}
-use Rattle.m386_encode.proofs.Tails.{items, item_first, item_second}
 
 -- whether there is no operand
 abbrev pub is_absent : Operand → Bool

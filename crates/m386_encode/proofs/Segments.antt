@@ -1,5 +1,5 @@
 -- The segment register of an operation is that of its memory operands.
-use Rattle.std.proofs.Common.{◌≡◌, ℕ, ◌<◌, Bool, true, false, ◌||◌, List, [], ◌∷◌, ◌++◌, refl, sym, ◌∙◌, ap, append_assoc, arith, subst, inl, inr}
+use Rattle.std.proofs.Common.{◌≡◌, ℕ, Bool, true, false, List, [], ◌∷◌, ◌++◌, refl, sym, ◌∙◌, ap, append_assoc, subst}
 use Rattle.std.specs.Prelude.{Option, Some, None, option_to_list}
 use Rattle.m386_base.specs.declared.number.Width.{Width}
 use Rattle.m386_opmap.specs.declared.fields.Fields.{Fields}

@@ -1,6 +1,6 @@
 -- The bytes behind opcode and ModRM are those of the operand that has them.
-use Rattle.std.proofs.Common.{◌≡◌, ℕ, zero, suc, ◌+◌, ◌-◌, ◌*◌, ◌/◌, ◌%◌, ◌^◌, ◌<◌, ◌≤◌, Bool, true, false, cond, ltb, List, [], ◌∷◌, ◌++◌, length, take, drop, get_or, refl, sym, ◌∙◌, ap, arith, subst}
-use Rattle.std.specs.Prelude.{Option, Some, None, option_to_list, ◌==◌, ◌||◌, ◌&&◌, not}
+use Rattle.std.proofs.Common.{◌≡◌, ℕ, zero, suc, ◌+◌, ◌<◌, List, [], ◌∷◌, ◌++◌, length, take, drop, get_or, refl, sym, ◌∙◌, ap, arith, subst}
+use Rattle.std.specs.Prelude.{Option, Some, None, option_to_list}
 use Rattle.std.proofs.lemmas.List.{take_all, take-append-drop, length-take, length-drop}
 use Rattle.m386_base.specs.declared.number.Width.{Width}
 use Rattle.m386_base.specs.declared.number.Width.TheVariants.{W8, W16, W32}
@@ -13,7 +13,7 @@ use Rattle.m386_opmap.specs.declared.row.Operand.TheVariants.{Absent, E, M, R, G
 use Rattle.m386_opmap.specs.Forms.{bytes_in, number, extended}
 use Rattle.m386_opmap.specs.Operands.{operand_value, operand_length}
 use Rattle.m386_opmap.proofs.Numbers.{extended_whole}
-use Rattle.m386_encode.specs.Candidates.{lowest, is_middle, is_low, operand_bytes}
+use Rattle.m386_encode.specs.Candidates.{lowest, operand_bytes}
 use Rattle.m386_encode.proofs.Values.{later, Bytes, lowest_number, lowest_signed}
 
 pub bytes_front : (xs ys : List ℕ) → Bytes (xs ++ ys) → Bytes xs

@@ -1,17 +1,13 @@
 -- What the operands of an operation say of the bytes that spell it.
-use Rattle.std.proofs.Common.{◌≡◌, ℕ, zero, suc, ◌+◌, ◌-◌, ◌*◌, ◌/◌, ◌%◌, ◌^◌, ◌<◌, ◌≤◌, Bool, true, false, cond, ltb, List, [], ◌∷◌, ◌++◌, length, take, drop, get_or, refl, sym, ◌∙◌, ap, arith}
-use Rattle.std.specs.Prelude.{Option, Some, None}
-use Rattle.std.proofs.lemmas.List.{take_all, take-append-drop}
+use Rattle.std.proofs.Common.{◌≡◌, ℕ, suc, ◌+◌, ◌*◌, ◌/◌, ◌%◌, ◌<◌, Bool, true, false, List, [], ◌∷◌, length, get_or, refl, arith}
 use Rattle.m386_base.specs.declared.number.Width.{Width}
 use Rattle.m386_base.specs.declared.number.Width.TheVariants.{W8, W16, W32}
 use Rattle.m386_opmap.specs.declared.fields.Fields.{Fields}
-use Rattle.m386_opmap.specs.declared.op.Arg.{Arg}
-use Rattle.m386_opmap.specs.declared.op.Arg.TheVariants.{Reg, Seg, Imm, Mem, Rel, Far}
 use Rattle.m386_opmap.specs.declared.row.Operand.{Operand}
 use Rattle.m386_opmap.specs.declared.row.Operand.TheVariants.{Absent, E, M, R, G, S, Low, I, Ib, Iw, SignedByte, Jb, J, O, A, X, Table, Eax, Cl, Dx, One, Es, Cs, Ss, Ds, Fs, Gs, Cr0}
-use Rattle.m386_opmap.specs.Forms.{bytes_in, number, extended}
-use Rattle.m386_opmap.specs.Operands.{operand_value, operand_length}
-use Rattle.m386_encode.specs.Candidates.{lowest, is_middle, is_low, operand_bytes}
+use Rattle.m386_opmap.specs.Forms.{number, extended}
+use Rattle.m386_opmap.specs.Operands.{operand_value}
+use Rattle.m386_encode.specs.Candidates.{lowest, is_middle, is_low}
 
 -- whether an operand is memory that no ModRM byte names
 abbrev pub is_plain : Operand → Bool

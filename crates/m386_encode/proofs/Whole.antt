@@ -1,19 +1,17 @@
 -- A candidate spells the operation, where a spelling by the same row does.
-use Rattle.std.proofs.Common.{◌≡◌, ◌≢◌, ℕ, zero, suc, ◌+◌, ◌-◌, ◌*◌, ◌/◌, ◌%◌, ◌<◌, ◌≤◌, ◌⊎◌, inl, inr, Bool, true, false, cond, List, [], ◌∷◌, ◌++◌, length, get_or, refl, sym, ◌∙◌, ap, arith, subst, ◌&&◌, ◌||◌, not, nat_lt, nat_le}
-use Rattle.std.specs.Prelude.{Option, Some, None, ◌==◌, is_some, option_to_list, if◌then◌else◌}
-use Rattle.std.specs.List.{Contains}
-use Rattle.std.proofs.lemmas.Bool.{cases_Bool, and_parts, or_cases, eqb-true, ltb-true, ltb-false}
+use Rattle.std.proofs.Common.{◌≡◌, ℕ, ◌+◌, ◌-◌, ◌*◌, ◌/◌, ◌%◌, ◌<◌, ◌≤◌, ◌⊎◌, inl, inr, Bool, true, false, cond, List, [], ◌∷◌, refl, ◌∙◌, arith, ◌||◌, nat_lt}
+use Rattle.std.specs.Prelude.{is_some}
+use Rattle.std.proofs.lemmas.Bool.{cases_Bool, ltb-false}
 use Rattle.m386_opmap.specs.declared.fields.Fields.{Fields}
 use Rattle.m386_opmap.specs.declared.op.Rep.{Rep}
 use Rattle.m386_opmap.specs.declared.op.Rep.TheVariants.{Once}
 use Rattle.m386_opmap.specs.declared.row.Row.{Row}
-use Rattle.m386_opmap.specs.Opcodes.{opcode_rows}
 use Rattle.m386_opmap.specs.Operands.{operand_value, has_modrm, width_of, operation, is_string}
 use Rattle.m386_opmap.specs.Rows.{Covers}
 use Rattle.m386_encode.specs.Candidates.{is_middle, is_low, opcode, middle}
 use Rattle.m386_encode.specs.Candidates.{key_bytes}
 use Rattle.m386_opmap.specs.Spelling.{opcode_bytes}
-use Rattle.m386_encode.proofs.RowParts.{is_placed, is_keyed}
+use Rattle.m386_encode.proofs.RowParts.{is_placed}
 use Rattle.m386_encode.proofs.Taken.{its, middle_taken, middle_free, opcode_taken, opcode_free}
 
 -- the same operation from other fields that agree where they count

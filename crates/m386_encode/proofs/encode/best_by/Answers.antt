@@ -1,6 +1,6 @@
 -- A row of another name is met too.
-use Rattle.std.proofs.Common.{rules, ◌≡◌, ◌<◌, ℕ, true, get_or}
-use Rattle.m386_encode.specs.Shortest.{IsSound, IsMet, no_row}
+use Rattle.std.proofs.Common.{◌≡◌, ℕ, true, get_or}
+use Rattle.m386_encode.specs.Shortest.{IsMet, no_row}
 use Rattle.m386_encode.proofs.Below.{below_next}
 use Rattle.m386_encode.proofs.encode.best_by.Goals as goal
 

@@ -1,6 +1,5 @@
 -- Bytes spell an operation where it is read from them, whole.
-use Rattle.std.proofs.Common.{rules, ◌≡◌, ◌∙◌, sym, ap, subst, ℕ, refl, take, length, Bool, true, false, arith}
-use Rattle.m386_opmap.specs.declared.op.Op.{Op}
+use Rattle.std.proofs.Common.{◌≡◌, subst, length}
 use Rattle.m386_opmap.specs.declared.outcome.Reading.{Reading}
 use Rattle.m386_opmap.specs.declared.outcome.Reading.TheVariants.{Spelled}
 use Rattle.m386_opmap.specs.Spelling.{IsReadingOf}

@@ -1,7 +1,7 @@
 -- Each of the six strings of bytes was met, and what was met stays so.
-use Rattle.std.proofs.Common.{rules, ◌≡◌, ◌<◌, ◌≤◌, ℕ, zero, suc, Bool, true, false, List, length, arith}
+use Rattle.std.proofs.Common.{◌<◌, ◌≤◌, ℕ, zero, suc, Bool, true, false, length, arith}
 use Rattle.m386_encode.specs.Candidates.{candidate}
-use Rattle.m386_encode.specs.Shortest.{IsSpelling, IsReached, IsMet}
+use Rattle.m386_encode.specs.Shortest.{IsSpelling, IsReached}
 use Rattle.m386_encode.proofs.encode.with_row.Goals as goal
 use Rattle.m386_encode.proofs.encode.with_row.Goals.{After-with_choice}
 

@@ -1,5 +1,5 @@
 -- Operations with the same fields are the same.
-use Rattle.std.proofs.Common.{◌≡◌, ◌∙◌, sym, true}
+use Rattle.std.proofs.Common.{◌∙◌, sym}
 use Rattle.m386_encode.proofs.Read.{same_fields}
 use Rattle.m386_encode.proofs.same.same_op.Goals as goal
 
