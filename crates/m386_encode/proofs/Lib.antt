@@ -1,6 +1,7 @@
 pub mod Assembled
 pub mod Below
 pub mod Marks
+pub mod Least
 pub mod Octets
 pub mod Ordered
 pub mod RowParts
