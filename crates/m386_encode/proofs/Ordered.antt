@@ -1,5 +1,7 @@
 -- The order of spellings is one.
-use Rattle.std.proofs.Common.{◌≡◌, ℕ, ◌<◌, ◌≤◌, List, [], ◌∷◌, length, Bool, true, false, ◌&&◌, ◌||◌, refl, arith}
+use Rattle.std.proofs.Common.{◌≡◌, ℕ, ◌<◌, ◌≤◌, List, [], ◌∷◌, length, Bool, true, false, ◌&&◌, ◌||◌, refl, arith, ◌++◌, length-append, inl, inr}
+use Rattle.std.specs.Prelude.{nat_lt}
+use Rattle.std.proofs.lemmas.Bool.{cases_Bool, ltb-true, ltb-false}
 use Rattle.std.proofs.lemmas.Bool.Decides.{nat_tests}
 use Rattle.m386_encode.specs.Order.{is_less, is_before}
 
@@ -51,5 +53,35 @@ not_before xs ys h e = grind (arith, nat_tests, e)
 pub not_before_longer : (xs ys : List ℕ) → length ys < length xs → is_before xs ys ≡ false
 unfolding is_before
 not_before_longer xs ys h = grind (arith, nat_tests)
+
+less_append : (xs ys us vs : List ℕ) → length xs ≡ length ys → is_less xs ys ≡ false → is_less us vs ≡ false → is_less (xs ++ us) (ys ++ vs) ≡ false
+unfolding is_less
+less_append [] [] us vs h p q = q
+less_append (x ∷ xs) [] us vs h p q = absurd (omega (arith, h))
+less_append [] (y ∷ ys) us vs h p q = absurd (omega (arith, h))
+less_append (x ∷ xs) (y ∷ ys) us vs h p q =
+    let next : is_less xs ys ≡ false → is_less (xs ++ us) (ys ++ vs) ≡ false = λ r. less_append xs ys us vs (omega (arith, h)) r q in
+    grind (arith, nat_tests, next, p)
+
+not_longer : (xs ys : List ℕ) → is_before xs ys ≡ false → length ys ≤ length xs
+unfolding is_before
+not_longer xs ys p = grind (arith, nat_tests, p)
+
+not_less : (xs ys : List ℕ) → is_before xs ys ≡ false → length xs ≡ length ys → is_less xs ys ≡ false
+unfolding is_before
+not_less xs ys p h = grind (arith, nat_tests, p, h)
+
+-- where no part comes before another, nor do they one behind the other
+pub before_append : (xs ys us vs : List ℕ) → is_before xs ys ≡ false → is_before us vs ≡ false → is_before (xs ++ us) (ys ++ vs) ≡ false
+before_append xs ys us vs p q =
+    let h = not_longer xs ys p in
+    let k = not_longer us vs q in
+    elim (cases_Bool (nat_lt (length (ys ++ vs)) (length (xs ++ us)))) [
+      | inl e ↦ not_before_longer (xs ++ us) (ys ++ vs) (ltb-true (length (ys ++ vs)) (length (xs ++ us)) e)
+      | inr e ↦ (let l = ltb-false (length (ys ++ vs)) (length (xs ++ us)) e in
+          let s : length xs ≡ length ys = omega (arith, l, h, k, length-append xs us, length-append ys vs) in
+          let t : length us ≡ length vs = omega (arith, l, h, k, length-append xs us, length-append ys vs) in
+          not_before (xs ++ us) (ys ++ vs) (omega (arith, s, t, length-append xs us, length-append ys vs)) (less_append xs ys us vs s (not_less xs ys p s) (not_less us vs q t)))
+    ]
 
 pub ruleset ordered = (before_self, before_kept)
