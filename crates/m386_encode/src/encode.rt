@@ -1,4 +1,4 @@
-//! The shortest spelling of an operation.
+//! A spelling of an operation: the earliest of the candidates of all rows that spell it.
 ghost use Rattle.std.specs.Prelude.{◌≡◌, ◌<◌, ◌≤◌, true, List, ℕ, length, get_or};
 ghost use Rattle.m386_opmap.specs.Opcodes.{opcode_rows};
 ghost use Rattle.m386_encode.specs.Candidates.{candidate};

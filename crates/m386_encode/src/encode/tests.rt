@@ -1,4 +1,4 @@
-//! Spellings compared with those of an assembler.
+//! Spellings compared with those worked out by hand from the opcode map; no assembler made them.
 
 use super::encode;
 use m386_opmap::outcome::Reading;
@@ -15,7 +15,7 @@ fn bytes_of(alloc: Global, text: &str) -> Result<Vec<u8>, Fail> {
     Ok(bytes)
 }
 
-/// A spelling, and the shortest of the same operation.
+/// A spelling, and what is wanted for the same operation.
 const CASES: &str = "05 01 00 00 00 = 83 c0 01
 83 c0 01 = 83 c0 01
 81 c0 01 00 00 00 = 83 c0 01
@@ -36,7 +36,7 @@ df = d8
 0f 94 f8 = 0f 94 c0";
 
 #[test]
-fn the_shortest_spelling_is_written(rt: HostRuntime) -> Result<(), Fail> {
+fn the_wanted_spelling_is_written(rt: HostRuntime) -> Result<(), Fail> {
     for line in CASES.lines() {
         let (spelling, wanted) = line.split_once(" = ").ok_or("no spelling")?;
         let spelling = bytes_of(rt.alloc(), spelling)?;
