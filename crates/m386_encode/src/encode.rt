@@ -100,10 +100,13 @@ fn best_of(op: &Op) -> Option<Bytes>
     best_by(op, &ROWS)
 }
 
-/// A spelling of an operation.
+/// The first of an operation's spellings by the rows of the machine, by length and then by bytes: with or without 66h, and
+/// with each length of a displacement. `None` where no row spells it so.
 pub fn encode(op: &Op) -> Option<ArrayVec<u8, 15>>
     // The bytes spell the operation.
     ensures spells { IsSound op.now result }
+    // No bytes by which a row of its name would spell it come before them, and at None there are no such bytes.
+    ensures met { (i : ℕ) → i < length opcode_rows → (get_or opcode_rows i no_row).name ≡ op.now.name → IsMet op.now result (get_or opcode_rows i no_row) }
 {
     best_of(op)
 }
