@@ -5,7 +5,8 @@ usage: run.py PROGRAM
 
 It builds nothing. Two kinds of runs are measured: one processor on a long straight row of MOV EAX, number and
 MOV [address], EAX; and two processors, in the order round, that exchange EAX with one place in memory for ever (XCHG, JMP).
-For each count of steps of a processor it prints the best of three runs, with the report written to a file.
+For each count of steps of a processor it prints the best of three runs with the report written to a file, and how many cycles
+a second the best of three makes whose report goes to the null device.
 """
 import os
 import struct
@@ -36,8 +37,10 @@ def exchanges():
     return image(2, b"\x87\x05" + struct.pack("<I", DATA) + b"\xeb\xf8")
 
 
-def run(program, data, steps):
-    with tempfile.TemporaryFile() as source, tempfile.TemporaryFile() as out:
+def run(program, data, steps, keeps):
+    """A run, with its report in a file or on the null device."""
+    with tempfile.TemporaryFile() as source, tempfile.TemporaryFile() as kept, open(os.devnull, "r+b") as null:
+        out = kept if keeps else null
         source.write(data)
         source.seek(0)
         begun = time.monotonic()
@@ -50,25 +53,29 @@ def run(program, data, steps):
         seconds = time.monotonic() - begun
         if status != 0:
             sys.exit(f"the program ended with status {status}")
-        size = out.seek(0, os.SEEK_END)
-        out.seek(0)
-        cycles = sum(1 for line in out if line.startswith(b"c "))
+        size = kept.seek(0, os.SEEK_END)
+        kept.seek(0)
+        cycles = sum(1 for line in kept if line.startswith(b"c "))
     return seconds, usage.ru_utime, cycles, size, usage.ru_maxrss * 1024
 
 
 def measure(program, name, cpus, data):
     print(name)
-    print("steps     cycles    seconds  user     steps/s    cycles/s   report bytes/s  memory/cycle beyond the empty run")
+    print(
+        "steps     cycles    seconds  user     steps/s    cycles/s   cycles/s to null  report bytes/s  "
+        "memory/cycle beyond the empty run"
+    )
     empty = None
     for steps in COUNTS:
-        seconds, user, cycles, size, memory = min(run(program, data, steps) for _ in range(3))
+        seconds, user, cycles, size, memory = min(run(program, data, steps, True) for _ in range(3))
+        alone = min(run(program, data, steps, False) for _ in range(3))[0]
         if empty is None:
             empty = memory
             print(f"{steps:<9} {cycles:<9} {seconds:<8.3f} {user:<8.3f} peak memory of the empty run: {memory} bytes")
             continue
         print(
             f"{steps:<9} {cycles:<9} {seconds:<8.3f} {user:<8.3f} {cpus * steps / seconds:<10.0f} {cycles / seconds:<10.0f} "
-            f"{size / seconds:<15.0f} {(memory - empty) / cycles:.1f}"
+            f"{cycles / alone:<17.0f} {size / seconds:<15.0f} {(memory - empty) / cycles:.1f}"
         )
 
 
