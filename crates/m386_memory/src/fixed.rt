@@ -1,5 +1,5 @@
 //! A bus over a few bytes, for one processor and a step or two.
-ghost use Rattle.std.specs.Prelude.{◌≡◌, ◌<◌, [], true, false, slice_set};
+ghost use Rattle.std.specs.Prelude.{◌≡◌, ◌<◌, [], None, true, false, is_some, length, slice_set};
 ghost use Rattle.m386_base.specs.Bus.{IsEnabled, empty_view};
 ghost use Rattle.m386_memory.specs.Contents.{zeros, group_in};
 ghost use Rattle.m386_memory.specs.Fixed.{few, few_after, asks_in, by_zero};
@@ -20,6 +20,7 @@ pub struct FixedBus<const N: usize> {
     stops: u64,
     wanted: Option<Ask>,
     ghost named: { cycles.items ≡ by_zero (asks_in cycles.items) },
+    ghost refused: { is_some wanted ≡ true → length cycles.items ≡ 192 },
 }
 
 /// Makes an ask on the bytes and gives what it is answered.
@@ -55,14 +56,15 @@ impl<const N: usize> FixedBus<N> {
         }
     }
 
-    /// Drops the cycles and frees the bus. The bytes stay.
+    /// Drops the cycles and frees the bus, and forgets what it refused. The bytes stay.
     pub fn clear(&mut self)
         ensures view { ⟦<FixedBus<N> as Bus>⟧.view self.new
-            ≡ record (⟦<FixedBus<N> as Bus>⟧.view self.old) { cycles = []; kept = false } }
+            ≡ record (⟦<FixedBus<N> as Bus>⟧.view self.old) { cycles = []; kept = false; wanted = None } }
         ensures bytes { self.new.bytes ≡ self.old.bytes }
     {
         self.cycles.clear();
         self.kept = false;
+        self.wanted = None;
     }
 
     /// The cycles made since the bus was made or cleared, in their order, as those of processor 0.
