@@ -1,12 +1,15 @@
 pub mod Assembled
 pub mod Below
+pub mod Foremost
 pub mod Marks
 pub mod Least
+pub mod Named
 pub mod Octets
 pub mod Ordered
 pub mod RowParts
 pub mod Places
 pub mod Read
+pub mod Reduced
 pub mod Tails
 pub mod Segments
 pub mod Taken

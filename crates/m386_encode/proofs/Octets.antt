@@ -1,5 +1,5 @@
 -- What a candidate is made of are bytes, and few.
-use Rattle.std.proofs.Common.{◌≡◌, ℕ, zero, suc, ◌+◌, ◌*◌, ◌/◌, ◌%◌, ◌<◌, ◌≤◌, Bool, true, false, cond, List, [], ◌∷◌, ◌++◌, length, refl, arith}
+use Rattle.std.proofs.Common.{◌≡◌, ℕ, zero, suc, ◌+◌, ◌*◌, ◌/◌, ◌%◌, ◌<◌, ◌≤◌, Bool, true, false, cond, List, [], ◌∷◌, ◌++◌, length, length-append, refl, arith}
 use Rattle.std.specs.Prelude.{Option, Some, None, ◌==◌, ◌&&◌, not, nat_lt}
 use Rattle.m386_opmap.specs.declared.op.Addr.{Addr}
 use Rattle.m386_opmap.specs.declared.op.Arg.{Arg}
@@ -7,7 +7,7 @@ use Rattle.m386_opmap.specs.declared.op.Arg.TheVariants.{Reg, Seg, Imm, Mem, Rel
 use Rattle.m386_opmap.specs.declared.op.Arg.TheVariants as args
 use Rattle.m386_opmap.specs.Forms.{displacement_length}
 use Rattle.m386_encode.specs.Candidates.{lowest, base, mode_of, index, scale, address_bytes, place_bytes, key_bytes}
-use Rattle.std.proofs.lemmas.Bool.{ltb-true}
+use Rattle.std.proofs.lemmas.Bool.{ltb-true, lt-ltb}
 use Rattle.m386_encode.proofs.Values.{Bytes, later}
 
 pub bytes_append : (xs ys : List ℕ) → Bytes xs → Bytes ys → Bytes (xs ++ ys)
@@ -87,3 +87,39 @@ key_are o h = key_by (nat_lt o 256) refl
     key_by : (c : Bool) → nat_lt o 256 ≡ c → Bytes (cond c (o ∷ []) (15 ∷ (o % 256) ∷ []))
     key_by true e = bytes_one o (ltb-true o 256 e)
     key_by false e = bytes_two 15 (o % 256) (omega arith) (omega arith)
+
+few_displacement_by : (a b c : Bool) → cond a (cond b 4 0) (cond c 1 4) ≤ 4
+few_displacement_by true true c = omega arith
+few_displacement_by true false c = omega arith
+few_displacement_by false b true = omega arith
+few_displacement_by false b false = omega arith
+
+address_size : (mid mode : ℕ) (a : Addr) → length (address_bytes mid mode a) ≤ 2
+unfolding address_bytes
+address_size mid mode a =
+    few_either (index a.index == 4 && not (base a.base == 4)) (64 * mode_of a.base mode + 8 * mid + base a.base) (64 * mode_of a.base mode + 8 * mid + 4) (64 * scale a.scale + 8 * index a.index + base a.base)
+
+pub place_size : (mid mode : ℕ) (p : Arg) → length (place_bytes mid mode p) ≤ 6
+unfolding place_bytes
+place_size mid mode (Reg n) = omega arith
+place_size mid mode (Seg n) = omega arith
+place_size mid mode args.Cr0 = omega arith
+place_size mid mode (Imm n) = omega arith
+place_size mid mode (Mem a) =
+    let m : ℕ = mode_of a.base mode in
+    let b : ℕ = base a.base in
+    let few : displacement_length m b ≤ 4 = few_displacement_by (m == 0) (b == 5) (m == 1) in
+    let size : length (lowest (displacement_length m b) a.disp) ≡ displacement_length m b = lowest_size (displacement_length m b) a.disp in
+    omega (arith, few, size, address_size mid mode a, length-append (address_bytes mid mode a) (lowest (displacement_length m b) a.disp))
+place_size mid mode (Rel n) = omega arith
+place_size mid mode (Far s o) = omega arith
+
+key_size_by : (short table : Bool) (o : ℕ) → (table ≡ true → short ≡ true) → length (cond short (o ∷ []) (15 ∷ (o % 256) ∷ [])) ≤ cond table 1 2
+key_size_by true true o f = omega arith
+key_size_by true false o f = omega arith
+key_size_by false true o f = (let e : false ≡ true = f refl in cc)
+key_size_by false false o f = omega arith
+
+-- an opcode of a row below 0F00h is one byte
+pub key_size : (o high : ℕ) → 8 * o ≤ high → length (key_bytes o) ≤ cond (nat_lt high 2048) 1 2
+key_size o high h = key_size_by (nat_lt o 256) (nat_lt high 2048) o (λ e. let l : high < 2048 = ltb-true high 2048 e in lt-ltb o 256 (omega arith))

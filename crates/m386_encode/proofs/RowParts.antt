@@ -1,5 +1,6 @@
 -- The parts of a candidate are those of a spelling by the same row.
-use Rattle.std.proofs.Common.{◌≡◌, ℕ, ◌+◌, ◌/◌, ◌%◌, ◌<◌, Bool, true, false, List, refl, arith, ◌&&◌, ◌||◌, not, nat_lt, nat_le}
+use Rattle.std.proofs.Common.{◌≡◌, ℕ, ◌+◌, ◌/◌, ◌%◌, ◌<◌, ◌≤◌, Bool, true, false, cond, List, refl, arith, ◌&&◌, ◌||◌, not, nat_lt, nat_le}
+use Rattle.std.proofs.lemmas.Bool.{and_parts, leb-true, eqb-true, not-true}
 use Rattle.std.specs.Prelude.{Option, Some, ◌==◌, if◌then◌else◌}
 use Rattle.std.specs.List.{list_all, Contains}
 use Rattle.std.proofs.lemmas.List.Sums.{AllPass-from_list_all}
@@ -50,9 +51,12 @@ is_keyed r =
     if is_low r.first || is_low r.second then (r.low / 64 == r.high / 64) && not (has_modrm r)
     else (r.low / 8 == r.high / 8 || (not (has_modrm r) && nat_lt r.high 2048))
 
--- the longest spelling of a row without prefixes
+-- the longest spelling of a row without prefixes, with 66h or without
+abbrev pub is_few : Row → Bool → Bool
+is_few r narrow = nat_le (tail_length r narrow + (if has_modrm r then 6 else 0) + (if nat_lt r.high 2048 then 1 else 2)) 11
+
 abbrev pub is_short : Row → Bool
-is_short r = nat_le (tail_length r false + (if has_modrm r then 6 else 0) + (if nat_lt r.high 2048 then 1 else 2)) 11
+is_short r = is_few r false && is_few r true
 
 abbrev pub is_shaped : Row → Bool
 is_shaped r = is_placed r && is_single r && is_keyed r && is_short r
@@ -61,8 +65,58 @@ all_shaped : list_all is_shaped opcode_rows ≡ true
 unfolding tail_length
 all_shaped = refl
 
-pub shaped : (r : Row) → Contains opcode_rows r → is_shaped r ≡ true
-shaped r c = All-contains (λ x. is_shaped x ≡ true) opcode_rows r (AllPass-from_list_all is_shaped opcode_rows all_shaped) c
+-- what each row of the table has
+pub record Shaped (r : Row) : Type 0 where
+  pub placed : is_placed r ≡ true
+  pub single : is_single r ≡ true
+  pub keyed : is_keyed r ≡ true
+  pub short : is_short r ≡ true
+
+pub shaped : (r : Row) → Contains opcode_rows r → Shaped r
+shaped r c =
+    let h : is_shaped r ≡ true = All-contains (λ x. is_shaped x ≡ true) opcode_rows r (AllPass-from_list_all is_shaped opcode_rows all_shaped) c in
+    let p = and_parts (is_placed r && is_single r && is_keyed r) (is_short r) h in
+    let q = and_parts (is_placed r && is_single r) (is_keyed r) p.0 in
+    let t = and_parts (is_placed r) (is_single r) q.0 in
+    record { placed = t.0; single = t.1; keyed = q.1; short = p.1 }
+
+-- how many bytes its parts but the prefixes have at most
+pub few : (r : Row) (narrow : Bool) → Shaped r → tail_length r narrow + cond (has_modrm r) 6 0 + cond (nat_lt r.high 2048) 1 2 ≤ 11
+few r true s = leb-true _ 11 (and_parts (is_few r false) (is_few r true) s.short).1
+few r false s = leb-true _ 11 (and_parts (is_few r false) (is_few r true) s.short).0
+
+-- a row with a ModRM byte has no operand in the opcode's low three bits
+high_by : (is_low with : Bool) (x y : Bool) → cond is_low (x && not with) y ≡ true → with ≡ true → is_low ≡ false
+high_by false with x y h e = refl
+high_by true true true y h e = cc
+high_by true true false y h e = cc
+high_by true false x y h e = cc
+
+pub no_low : (r : Row) → Shaped r → has_modrm r ≡ true → is_low r.first || is_low r.second ≡ false
+no_low r s e = high_by (is_low r.first || is_low r.second) (has_modrm r) (r.low / 64 == r.high / 64) (r.low / 8 == r.high / 8 || (not (has_modrm r) && nat_lt r.high 2048)) s.keyed e
+
+spread_by : (is_low x with y : Bool) → cond is_low (x && not with) y ≡ true → is_low ≡ true → x ≡ true
+spread_by true true with y h e = refl
+spread_by true false with y h e = cc
+spread_by false x with y h e = cc
+
+-- a row with one has eight opcodes that differ in them alone
+pub eight : (r : Row) → Shaped r → is_low r.first || is_low r.second ≡ true → r.low / 64 ≡ r.high / 64
+eight r s e = eqb-true (r.low / 64) (r.high / 64) (spread_by (is_low r.first || is_low r.second) (r.low / 64 == r.high / 64) (has_modrm r) (r.low / 8 == r.high / 8 || (not (has_modrm r) && nat_lt r.high 2048)) s.keyed e)
+
+-- what the third operand is not
+pub record Third (r : Row) : Type 0 where
+  pub middle : is_middle r.third ≡ false
+  pub low : is_low r.third ≡ false
+  pub plain : is_plain r.third ≡ false
+
+pub third_is : (r : Row) → is_placed r ≡ true → Third r
+third_is r h =
+    let p = and_parts _ _ (and_parts _ _ h).0 in
+    let q = and_parts (not (is_place r.third) && not (is_middle r.third) && not (is_low r.third)) (not (is_plain r.third)) p.1 in
+    let t = and_parts (not (is_place r.third) && not (is_middle r.third)) (not (is_low r.third)) q.0 in
+    let u = and_parts (not (is_place r.third)) (not (is_middle r.third)) t.0 in
+    record { middle = not-true (is_middle r.third) u.1; low = not-true (is_low r.third) t.1; plain = not-true (is_plain r.third) q.1 }
 
 -- an operand that is there
 abbrev pub Present : Option Arg → Type 0

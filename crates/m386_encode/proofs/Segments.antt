@@ -50,21 +50,21 @@ seg_of_second seg a b c n m h =
     let P : Option ℕ → Type 0 = λ s. s ≡ seg in
     ap segment (right a b c) ∙ seg_next P seg a (option_to_list b ++ option_to_list c) n refl (seg_first seg b (option_to_list c) m h)
 
-seg_none : (seg : Option ℕ) (c : Option Arg) → Names seg c → IsSegment seg → IsSegment (segment (option_to_list c))
+seg_last : (P : Option ℕ → Type 0) (seg : Option ℕ) (c : Option Arg) → Names seg c → P None → P seg → P (segment (option_to_list c))
 unfolding segment
-seg_none seg None n s = tt
-seg_none seg (Some (Reg x)) n s = tt
-seg_none seg (Some (Seg x)) n s = tt
-seg_none seg (Some args.Cr0) n s = tt
-seg_none seg (Some (Imm x)) n s = tt
-seg_none seg (Some (Mem a)) n s = let P : Option ℕ → Type 0 = IsSegment in subst P (sym n) s
-seg_none seg (Some (Rel x)) n s = tt
-seg_none seg (Some (Far x y)) n s = tt
+seg_last P seg None n e s = e
+seg_last P seg (Some (Reg x)) n e s = e
+seg_last P seg (Some (Seg x)) n e s = e
+seg_last P seg (Some args.Cr0) n e s = e
+seg_last P seg (Some (Imm x)) n e s = e
+seg_last P seg (Some (Mem a)) n e s = subst P (sym n) s
+seg_last P seg (Some (Rel x)) n e s = e
+seg_last P seg (Some (Far x y)) n e s = e
 
-pub seg_is : (seg : Option ℕ) (a b c : Option Arg) → Names seg a → Names seg b → Names seg c → IsSegment seg → IsSegment (segment (items a b c))
-seg_is seg a b c n m k s =
-    let P : Option ℕ → Type 0 = IsSegment in
-    subst P (sym (ap segment (right a b c))) (seg_next P seg a (option_to_list b ++ option_to_list c) n s (seg_next P seg b (option_to_list c) m s (seg_none seg c k s)))
+-- it is none, or the one that they name
+pub seg_is : (P : Option ℕ → Type 0) (seg : Option ℕ) (a b c : Option Arg) → Names seg a → Names seg b → Names seg c → P None → P seg → P (segment (items a b c))
+seg_is P seg a b c n m k e s =
+    subst P (sym (ap segment (right a b c))) (seg_next P seg a (option_to_list b ++ option_to_list c) n s (seg_next P seg b (option_to_list c) m s (seg_last P seg c k e s)))
 
 later_is : (x y : Option ℕ) → IsSegment x → IsSegment y → IsSegment (later x y)
 later_is x None a b = a

@@ -206,7 +206,7 @@ module _ (f : Fields) (w : Width) (bs : List ℕ) (r : Row) (sh : is_placed r �
   unfolding opcode
   opcode_free h = pick_none (is_low r.first) (is_low r.second) _ _ _ h
 
-  place_stands : has_modrm r ≡ true → is_place r.first || is_place r.second ≡ true
+  pub place_stands : has_modrm r ≡ true → is_place r.first || is_place r.second ≡ true
   place_stands h = sym (ap (λ b. cond b (is_place r.first || is_place r.second) (not (is_place r.first || is_place r.second))) h) ∙ last
 
   place_lacks : has_modrm r ≡ false → is_place r.first || is_place r.second ≡ false

@@ -1,7 +1,7 @@
 -- A candidate spells the operation, where a spelling by the same row does.
 use Rattle.std.proofs.Common.{◌≡◌, ℕ, ◌+◌, ◌-◌, ◌*◌, ◌/◌, ◌%◌, ◌<◌, ◌≤◌, ◌⊎◌, inl, inr, Bool, true, false, cond, List, [], ◌∷◌, refl, ◌∙◌, arith, ◌||◌, nat_lt}
 use Rattle.std.specs.Prelude.{is_some}
-use Rattle.std.proofs.lemmas.Bool.{cases_Bool, ltb-false}
+use Rattle.std.proofs.lemmas.Bool.{cases_Bool, ltb-true, ltb-false, lt-ltb}
 use Rattle.m386_opmap.specs.declared.fields.Fields.{Fields}
 use Rattle.m386_opmap.specs.declared.op.Rep.{Rep}
 use Rattle.m386_opmap.specs.declared.op.Rep.TheVariants.{Once}
@@ -11,6 +11,8 @@ use Rattle.m386_opmap.specs.Rows.{Covers}
 use Rattle.m386_encode.specs.Candidates.{is_middle, is_low, opcode, middle}
 use Rattle.m386_encode.specs.Candidates.{key_bytes}
 use Rattle.m386_opmap.specs.Spelling.{opcode_bytes}
+use Rattle.m386_encode.specs.Order.{is_before, is_less}
+use Rattle.m386_encode.proofs.Ordered.{less_step, not_before, not_before_longer}
 use Rattle.m386_encode.proofs.RowParts.{is_placed}
 use Rattle.m386_encode.proofs.Taken.{its, middle_taken, middle_free, opcode_taken, opcode_free}
 
@@ -62,3 +64,14 @@ key_by o false f = rw (f refl) refl
 -- the bytes of an opcode of the table
 pub key_bytes_are : (o : ℕ) → (o < 256) ⊎ ((3840 ≤ o) × (o < 4096)) → key_bytes o ≡ opcode_bytes o
 key_bytes_are o h = key_by o (nat_lt o 256) (λ e. elim h [ inl l ↦ absurd (omega (arith, ltb-false o 256 e, l)) | inr l ↦ omega (arith, l.0, l.1) ])
+
+key_first_by : (one other : Bool) (o p : ℕ) → p ≤ o → (one ≡ true → other ≡ true) → is_before (cond one (o ∷ []) (15 ∷ (o - 3840) ∷ [])) (cond other (p ∷ []) (15 ∷ (p - 3840) ∷ [])) ≡ false
+unfolding is_less
+key_first_by true true o p h f = not_before (o ∷ []) (p ∷ []) refl (less_step o p [] [] h refl)
+key_first_by true false o p h f = (let e : false ≡ true = f refl in cc)
+key_first_by false true o p h f = not_before_longer (15 ∷ (o - 3840) ∷ []) (p ∷ []) (omega arith)
+key_first_by false false o p h f = not_before (15 ∷ (o - 3840) ∷ []) (15 ∷ (p - 3840) ∷ []) refl (less_step 15 15 ((o - 3840) ∷ []) ((p - 3840) ∷ []) (omega arith) (less_step (o - 3840) (p - 3840) [] [] (omega arith) refl))
+
+-- an opcode comes not before a smaller one
+pub key_first : (o p : ℕ) → p ≤ o → is_before (opcode_bytes o) (opcode_bytes p) ≡ false
+key_first o p h = key_first_by (nat_lt o 256) (nat_lt p 256) o p h (λ e. let l : o < 256 = ltb-true o 256 e in lt-ltb p 256 (omega arith))

@@ -1,0 +1,232 @@
+-- For each spelling there is a candidate of its row that spells the operation too and comes not after it.
+use Rattle.std.proofs.Common.{◌≡◌, ℕ, ◌+◌, ◌*◌, ◌%◌, ◌<◌, ◌≤◌, ◌⊎◌, inl, inr, Bool, true, false, cond, List, ◌++◌, length, length-append, refl, sym, ◌∙◌, ap, arith, subst, append_assoc, nat_lt, nat_le, ◌&&◌}
+use Rattle.std.specs.Prelude.{Option, is_some}
+use Rattle.std.specs.List.{All, Contains, list_all}
+use Rattle.std.proofs.lemmas.Bool.{and_parts, or_left, or_right, ltb-true, leb-true, both_ways}
+use Rattle.std.proofs.lemmas.List.Sums.{AllPass-from_list_all}
+use Rattle.std.proofs.lemmas.List.Elements.{All-append, All-get_or, All-from_get_or, All-weaker}
+use Rattle.m386_base.specs.declared.number.Width.{Width}
+use Rattle.m386_opmap.specs.declared.fields.Fields.{Fields}
+use Rattle.m386_opmap.specs.declared.fields.Prefixes.{Prefixes}
+use Rattle.m386_opmap.specs.declared.op.Arg.{Arg}
+use Rattle.m386_opmap.specs.declared.op.Op.{Op}
+use Rattle.m386_opmap.specs.declared.op.Rep.{Rep}
+use Rattle.m386_opmap.specs.declared.op.Rep.TheVariants.{Once}
+use Rattle.m386_opmap.specs.declared.row.Row.{Row}
+use Rattle.m386_opmap.specs.Forms.{Form}
+use Rattle.m386_opmap.specs.Opcodes.{opcode_rows}
+use Rattle.m386_opmap.specs.Operands.{operand_value, has_modrm, suits, is_memory, tail_length, operation, is_string}
+use Rattle.m386_opmap.specs.Prefix.{is_prefix, prefixes_of}
+use Rattle.m386_opmap.specs.Rows.{Covers}
+use Rattle.m386_opmap.specs.Spelling.{Spells, opcode_bytes}
+use Rattle.m386_opmap.proofs.Lawful.{opcodes_lawful, lawful_row, begins_from, opcode_of_row, IsOpcode, byte, pair}
+use Rattle.m386_opmap.proofs.Outcomes.{fields_at}
+use Rattle.m386_opmap.proofs.Sound.{AreBytes, front_bytes, back_bytes}
+use Rattle.m386_encode.specs.Candidates.{is_middle, is_low, opcode, segment, key_bytes, form_bytes, tail_bytes, prefixes, segment_prefix, candidate}
+use Rattle.m386_encode.specs.Order.{is_before}
+use Rattle.m386_encode.specs.Shortest.{IsSpelling}
+use Rattle.m386_encode.proofs.Assembled.{assembled}
+use Rattle.m386_encode.proofs.Foremost.{marks_first, segment_stands}
+use Rattle.m386_encode.proofs.Least.{AllWithin}
+use Rattle.m386_encode.proofs.Marks.{marks, marks_say, marks_pass, IsSegment}
+use Rattle.m386_encode.proofs.Named.{Named, named_again, operands, seg_either, plain_first, plain_second, width, said_is}
+use Rattle.m386_encode.proofs.Octets.{key_are, key_size}
+use Rattle.m386_encode.proofs.Ordered.{before_self, before_append}
+use Rattle.m386_encode.proofs.Places.{Fits, mode_for, displacement_size}
+use Rattle.m386_encode.proofs.RowParts.{Shaped, shaped, few, third_is}
+use Rattle.m386_encode.proofs.Taken.{tail_taken}
+use Rattle.m386_encode.proofs.Values.{Bytes, is_plain, value_same}
+use Rattle.m386_encode.proofs.Whole.{same_operation, same_rep, key_bytes_are, key_first}
+
+-- A candidate of a row spells the operation, has at most 15 bytes, and comes not after these.
+pub record Reduced (op : Op) (r : Row) (narrow : Bool) (mode : ℕ) (bytes : List ℕ) : Type 0 where
+  pub spells : IsSpelling op (candidate op r narrow mode)
+  pub short : length (candidate op r narrow mode) ≤ 15
+  pub first : is_before bytes (candidate op r narrow mode) ≡ false
+
+-- the prefixes of four marks
+pub record MarksPass (bs : List ℕ) : Type 0 where
+  pub prefixes : All (λ b. is_prefix b ≡ true) bs
+  pub are : AreBytes bs
+  pub few : length bs ≤ 4
+
+passing : (seg : Option ℕ) (narrow lock : Bool) (rep : Rep) → IsSegment seg → MarksPass (marks seg narrow lock rep)
+passing seg narrow lock rep h =
+    let bs : List ℕ = marks seg narrow lock rep in
+    let p = and_parts (list_all (λ b. is_prefix b && nat_lt b 256) bs) (nat_le (length bs) 4) (marks_pass seg narrow lock rep h) in
+    let all : All (λ b. is_prefix b && nat_lt b 256 ≡ true) bs = AllPass-from_list_all (λ b. is_prefix b && nat_lt b 256) bs p.0 in
+    record {
+      prefixes = All-weaker (λ b. is_prefix b && nat_lt b 256 ≡ true) (λ b. is_prefix b ≡ true) (λ b e. (and_parts (is_prefix b) (nat_lt b 256) e).0) bs all;
+      are = All-weaker (λ b. is_prefix b && nat_lt b 256 ≡ true) (λ b. b < 256) (λ b e. ltb-true b 256 (and_parts (is_prefix b) (nat_lt b 256) e).1) bs all;
+      few = leb-true (length bs) 4 p.1;
+    }
+
+number_of_opcode : (o : ℕ) → IsOpcode o → (o < 256) ⊎ ((3840 ≤ o) × (o < 4096))
+number_of_opcode o (byte h p q) = inl h
+number_of_opcode o (pair h k) = inr (h, k)
+
+below : (o : ℕ) → (o < 256) ⊎ ((3840 ≤ o) × (o < 4096)) → o < 4096
+below o h = elim h [ inl l ↦ omega arith | inr l ↦ l.1 ]
+
+module _ (r : Row) (ps : List ℕ) (o : ℕ) (modrm tail : List ℕ) (mid : ℕ) (place : Option Arg) (listed : Contains opcode_rows r) (form : Form (prefixes_of ps).seg modrm mid place)
+    (wanted : has_modrm r ≡ is_some place) (covered : Covers r (8 * o + mid)) (are : AreBytes (ps ++ (opcode_bytes o ++ (modrm ++ tail)))) (whole : length tail ≡ tail_length r (prefixes_of ps).narrow) (mode : ℕ) (fits : Fits mode place modrm) where
+  abbrev said : Prefixes
+  said = prefixes_of ps
+
+  abbrev f : Fields
+  f = fields_at ps o mid place
+
+  shape : Shaped r
+  shape = shaped r listed
+
+  behind : AreBytes (modrm ++ tail)
+  behind = back_bytes (opcode_bytes o) (modrm ++ tail) (back_bytes ps (opcode_bytes o ++ (modrm ++ tail)) are)
+
+  modrm_are : Bytes modrm
+  modrm_are k h = All-get_or (λ b. b < 256) modrm k 0 h (front_bytes modrm tail behind)
+
+  tail_are : Bytes tail
+  tail_are k h = All-get_or (λ b. b < 256) tail k 0 h (back_bytes modrm tail behind)
+
+  abbrev xs : List Arg
+  xs = operands r ps o modrm tail mid place listed shape form wanted
+
+  abbrev w : Width
+  w = width r ps o modrm tail mid place listed shape form wanted
+
+  abbrev rep : Rep
+  rep = cond (is_string r.name) said.rep Once
+
+  abbrev new : List ℕ
+  new = marks (segment xs) said.narrow said.lock rep
+
+  named : Named r f xs mode modrm
+  named = named_again r ps o modrm tail mid place listed shape form wanted mode covered modrm_are fits
+
+  segment_is : IsSegment (segment xs)
+  segment_is = seg_either r ps o modrm tail mid place listed shape form wanted IsSegment tt (said_is ps)
+
+  say : prefixes_of new ≡ record { seg = segment xs; narrow = said.narrow; lock = said.lock; rep = rep }
+  say = marks_say (segment xs) said.narrow said.lock rep segment_is
+
+  pass : MarksPass new
+  pass = passing (segment xs) said.narrow said.lock rep segment_is
+
+  -- the operation and its candidate, by their parts
+  abbrev meant : Op
+  meant = operation r f tail
+
+  abbrev parts : List ℕ → List ℕ
+  parts end = ((new ++ key_bytes (opcode r xs)) ++ form_bytes r mode xs) ++ end
+
+  candidate_is : candidate meant r said.narrow mode ≡ parts (tail_bytes r w xs)
+  unfolding candidate prefixes operation
+  candidate_is = refl
+
+  tail_is : tail_bytes r w xs ≡ tail
+  unfolding tail_length
+  tail_is = tail_taken f w tail r shape.placed wanted shape.single whole tail_are
+
+  is_candidate : candidate meant r said.narrow mode ≡ parts tail
+  is_candidate = candidate_is ∙ ap parts tail_is
+
+  opcode_is : IsOpcode (opcode r xs)
+  opcode_is = opcode_of_row (opcode r xs) r (lawful_row opcode_rows r opcodes_lawful listed) (begins_from false (opcode r xs) named.mid r named.small named.covered refl)
+
+  key_is : key_bytes (opcode r xs) ≡ opcode_bytes (opcode r xs)
+  key_is = key_bytes_are (opcode r xs) (number_of_opcode (opcode r xs) opcode_is)
+
+  from_get : (bs : List ℕ) → Bytes bs → AreBytes bs
+  from_get bs b = All-from_get_or (λ b. b < 256) bs 0 b
+
+  parts_are : AreBytes (parts tail)
+  parts_are =
+      All-append (λ b. b < 256) ((new ++ key_bytes (opcode r xs)) ++ form_bytes r mode xs) tail
+      (All-append (λ b. b < 256) (new ++ key_bytes (opcode r xs)) (form_bytes r mode xs)
+      (All-append (λ b. b < 256) new (key_bytes (opcode r xs)) pass.are (from_get (key_bytes (opcode r xs)) (key_are (opcode r xs) (below (opcode r xs) (number_of_opcode (opcode r xs) opcode_is)))))
+      (from_get (form_bytes r mode xs) named.are))
+      (from_get tail tail_are)
+
+  -- the candidate's fields, and what they say of the operands
+  abbrev g : Fields
+  g = fields_at new (opcode r xs) named.mid place
+
+  seg_is : g.prefixes.seg ≡ segment xs
+  seg_is = ap (λ (x : Prefixes). x.seg) say
+
+  narrow_is : g.prefixes.narrow ≡ said.narrow
+  narrow_is = ap (λ (x : Prefixes). x.narrow) say
+
+  lock_is : g.prefixes.lock ≡ said.lock
+  lock_is = ap (λ (x : Prefixes). x.lock) say
+
+  rep_is : cond (is_string r.name) g.prefixes.rep Once ≡ cond (is_string r.name) said.rep Once
+  rep_is = ap (λ (x : Prefixes). cond (is_string r.name) x.rep Once) say ∙ same_rep (is_string r.name) said.rep
+
+  value_first : operand_value g w tail r.first ≡ operand_value f w tail r.first
+  value_first =
+      sym (value_same f g w tail r.first refl (λ e. named.middle (or_left (is_middle r.first) (is_middle r.second) e))
+      (λ e. ap (λ n. n % 8) (sym (named.low (or_left (is_low r.first) (is_low r.second) e)))) (λ e. plain_first r ps o modrm tail mid place listed shape form wanted e ∙ sym seg_is))
+
+  value_second : operand_value g w tail r.second ≡ operand_value f w tail r.second
+  value_second =
+      sym (value_same f g w tail r.second refl (λ e. named.middle (or_right (is_middle r.first) (is_middle r.second) e))
+      (λ e. ap (λ n. n % 8) (sym (named.low (or_right (is_low r.first) (is_low r.second) e)))) (λ e. plain_second r ps o modrm tail mid place listed shape form wanted e ∙ sym seg_is))
+
+  value_third : operand_value g w tail r.third ≡ operand_value f w tail r.third
+  value_third =
+      let third = third_is r shape.placed in
+      sym (value_same f g w tail r.third refl (λ e. absurd (both_ways (is_middle r.third) third.middle e)) (λ e. absurd (both_ways (is_low r.third) third.low e)) (λ e. absurd (both_ways (is_plain r.third) third.plain e)))
+
+  same : operation r g tail ≡ meant
+  same = same_operation r f g tail narrow_is lock_is rep_is value_first value_second value_third
+
+  spells : suits r said.lock (is_memory place) ≡ true → IsSpelling meant (candidate meant r said.narrow mode)
+  spells suited =
+      let F : Option ℕ → Type 0 = λ x. Form x (form_bytes r mode xs) named.mid place in
+      let L : Bool → Type 0 = λ x. suits r x (is_memory place) ≡ true in
+      let N : Bool → Type 0 = λ x. length tail ≡ tail_length r x in
+      let S : List ℕ → Type 0 = λ x. IsSpelling meant x in
+      subst S (sym is_candidate)
+      (assembled r new (form_bytes r mode xs) tail (opcode r xs) named.mid place meant listed pass.prefixes parts_are key_is (subst F (sym seg_is) named.form) wanted named.covered (subst L (sym lock_is) suited) (subst N (sym narrow_is) whole) same)
+
+  short : length (candidate meant r said.narrow mode) ≤ 15
+  short =
+      let most = few r said.narrow shape in
+      let key = key_size (opcode r xs) r.high (omega (arith, named.covered.1)) in
+      omega (arith, ap length is_candidate, most, key, named.size, pass.few, whole, length-append new (key_bytes (opcode r xs)), length-append (new ++ key_bytes (opcode r xs)) (form_bytes r mode xs), length-append ((new ++ key_bytes (opcode r xs)) ++ form_bytes r mode xs) tail)
+
+  first : is_before (ps ++ (opcode_bytes o ++ (modrm ++ tail))) (candidate meant r said.narrow mode) ≡ false
+  first =
+      let stands : AllWithin (segment_prefix (segment xs)) ps = seg_either r ps o modrm tail mid place listed shape form wanted (λ x. AllWithin (segment_prefix x) ps) tt (segment_stands ps) in
+      let marks : is_before ps new ≡ false = marks_first ps (segment xs) (is_string r.name) segment_is stands in
+      let K : List ℕ → Type 0 = λ x. is_before (opcode_bytes o) x ≡ false in
+      let key : is_before (opcode_bytes o) (key_bytes (opcode r xs)) ≡ false = subst K (sym key_is) (key_first o (opcode r xs) named.earlier) in
+      let all : is_before (((ps ++ opcode_bytes o) ++ modrm) ++ tail) (parts tail) ≡ false =
+      before_append ((ps ++ opcode_bytes o) ++ modrm) ((new ++ key_bytes (opcode r xs)) ++ form_bytes r mode xs) tail tail
+      (before_append (ps ++ opcode_bytes o) (new ++ key_bytes (opcode r xs)) modrm (form_bytes r mode xs) (before_append ps new (opcode_bytes o) (key_bytes (opcode r xs)) marks key) named.first)
+      (before_self tail) in
+      let joined : ((ps ++ opcode_bytes o) ++ modrm) ++ tail ≡ ps ++ (opcode_bytes o ++ (modrm ++ tail)) = append_assoc (ps ++ opcode_bytes o) modrm tail ∙ append_assoc ps (opcode_bytes o) (modrm ++ tail) in
+      let P : List ℕ → Type 0 = λ x. is_before x (candidate meant r said.narrow mode) ≡ false in
+      let Q : List ℕ → Type 0 = λ x. is_before (((ps ++ opcode_bytes o) ++ modrm) ++ tail) x ≡ false in
+      subst P joined (subst Q (sym is_candidate) all)
+
+  pub reduced_parts : suits r said.lock (is_memory place) ≡ true → Reduced meant r said.narrow mode (ps ++ (opcode_bytes o ++ (modrm ++ tail)))
+  reduced_parts suited = record { spells = spells suited; short = short; first = first }
+
+-- For each spelling of an operation there is a candidate of its row, with 66h where it has that, that spells the operation too,
+-- has at most 15 bytes, and comes not after it. Where the spelling names memory, the mode is that of its displacement.
+pub reduced : (op : Op) (bytes : List ℕ) (s : Spells op bytes) (mode : ℕ) → Fits mode s.place s.modrm → Reduced op s.row (prefixes_of s.prefixes).narrow mode bytes
+reduced op bytes s mode fits =
+    let A : List ℕ → Type 0 = AreBytes in
+    let B : List ℕ → Type 0 = λ x. Reduced (operation s.row (fields_at s.prefixes s.opcode s.middle s.place) s.tail) s.row (prefixes_of s.prefixes).narrow mode x in
+    let O : Op → Type 0 = λ x. Reduced x s.row (prefixes_of s.prefixes).narrow mode bytes in
+    subst O (sym s.spelled) (subst B (sym s.parts) (reduced_parts s.row s.prefixes s.opcode s.modrm s.tail s.middle s.place s.listed s.form s.wanted s.covered (subst A s.parts s.are_bytes) s.whole mode fits s.suited))
+
+-- the candidate with a displacement of as many bytes
+pub reduced_alike : (op : Op) (bytes : List ℕ) (s : Spells op bytes) → Reduced op s.row (prefixes_of s.prefixes).narrow (mode_for (displacement_size s.modrm)) bytes
+reduced_alike op bytes s = reduced op bytes s (mode_for (displacement_size s.modrm)) (λ m. refl)
+
+-- the candidate with a displacement of four bytes, where the spelling has one if it names memory
+pub reduced_wide : (op : Op) (bytes : List ℕ) (s : Spells op bytes) → (is_memory s.place ≡ true → displacement_size s.modrm ≡ 4) → Reduced op s.row (prefixes_of s.prefixes).narrow 2 bytes
+reduced_wide op bytes s four = reduced op bytes s 2 (λ m. sym (ap mode_for (four m)))
