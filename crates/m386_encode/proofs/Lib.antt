@@ -1,5 +1,6 @@
 pub mod Assembled
 pub mod Below
+pub mod Chosen
 pub mod Foremost
 pub mod Marks
 pub mod Least

@@ -39,6 +39,19 @@ kept false b f e = refl
 pub before_kept : (other xs ys : List ℕ) → is_before xs ys ≡ true → is_before other ys ≡ false → is_before other xs ≡ false
 before_kept other xs ys p e = kept _ _ (λ q. before_trans other xs ys q p) e
 
+not_less_trans : (xs ys zs : List ℕ) → length xs ≡ length ys → is_less xs ys ≡ false → is_less ys zs ≡ false → is_less xs zs ≡ false
+unfolding is_less
+not_less_trans [] ys zs h p q = refl
+not_less_trans (x ∷ xs) [] zs h p q = absurd (omega (arith, h))
+not_less_trans (x ∷ xs) (y ∷ ys) [] h p q = refl
+not_less_trans (x ∷ xs) (y ∷ ys) (z ∷ zs) h p q =
+    let next : is_less xs ys ≡ false → is_less ys zs ≡ false → is_less xs zs ≡ false = not_less_trans xs ys zs (omega (arith, h)) in grind (arith, nat_tests, next, p, q)
+
+-- what comes not before bytes that come not before others comes not before these
+pub not_before_trans : (xs ys zs : List ℕ) → is_before xs ys ≡ false → is_before ys zs ≡ false → is_before xs zs ≡ false
+unfolding is_before
+not_before_trans xs ys zs p q = let next : length xs ≡ length ys → is_less xs ys ≡ false → is_less ys zs ≡ false → is_less xs zs ≡ false = not_less_trans xs ys zs in grind (arith, nat_tests, next, p, q)
+
 -- a byte that is not greater, and then bytes that are not
 pub less_step : (x y : ℕ) (xs ys : List ℕ) → y ≤ x → is_less xs ys ≡ false → is_less (x ∷ xs) (y ∷ ys) ≡ false
 unfolding is_less

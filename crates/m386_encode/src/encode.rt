@@ -1,9 +1,12 @@
-//! A spelling of an operation: the earliest of the candidates of all rows that spell it.
-ghost use Rattle.std.specs.Prelude.{◌≡◌, ◌<◌, ◌≤◌, true, List, ℕ, length, get_or};
+//! The shortest spelling of an operation: the earliest of the candidates of all rows that spell it.
+ghost use Rattle.std.specs.Prelude.{◌≡◌, ◌↔◌, ◌<◌, ◌≤◌, ◌++◌, true, None, Some, List, ℕ, length, get_or};
 ghost use Rattle.m386_opmap.specs.Opcodes.{opcode_rows};
+ghost use Rattle.m386_opmap.specs.Readings.{reading_of};
+ghost use Rattle.m386_opmap.specs.Spelling.{Spells};
+ghost use Rattle.m386_opmap.specs.declared.outcome.Reading.TheVariants.{Spelled};
 ghost use Rattle.m386_encode.specs.Candidates.{candidate};
 ghost use Rattle.m386_encode.specs.Order.{is_before};
-ghost use Rattle.m386_encode.specs.Shortest.{IsSpelling, IsSound, IsReached, IsMet, no_row};
+ghost use Rattle.m386_encode.specs.Shortest.{IsShortest, IsSpelling, IsSound, IsReached, IsMet, no_row};
 
 use crate::candidate::candidate_of;
 use crate::order::before;
@@ -100,13 +103,15 @@ fn best_of(op: &Op) -> Option<Bytes>
     best_by(op, &ROWS)
 }
 
-/// The first of an operation's spellings by the rows of the machine, by length and then by bytes: with or without 66h, and
-/// with each length of a displacement. `None` where no row spells it so.
+/// The shortest spelling of an operation (PRM 17.2.1), and among equally short ones the one whose bytes, compared in order,
+/// are least. `None` exactly where the operation has no spelling.
 pub fn encode(op: &Op) -> Option<ArrayVec<u8, 15>>
-    // The bytes spell the operation.
-    ensures spells { IsSound op.now result }
-    // No bytes by which a row of its name would spell it come before them, and at None there are no such bytes.
-    ensures met { (i : ℕ) → i < length opcode_rows → (get_or opcode_rows i no_row).name ≡ op.now.name → IsMet op.now result (get_or opcode_rows i no_row) }
+    // The bytes spell the operation, and no spelling of it, however long, comes before them.
+    ensures shortest { (bytes : _) → result ≡ Some bytes → IsShortest op.now bytes.items }
+    // There are none exactly where no bytes spell the operation.
+    ensures none { (result ≡ None) ↔ ((bytes : List ℕ) → Spells op.now bytes → ⊥) }
+    // They read as the operation, whatever bytes follow.
+    ensures read { (bytes : _) (rest : List ℕ) → result ≡ Some bytes → reading_of (bytes.items ++ rest) ≡ Spelled op.now (length bytes.items) }
 {
     best_of(op)
 }

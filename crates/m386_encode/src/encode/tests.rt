@@ -19,6 +19,8 @@ fn bytes_of(alloc: Global, text: &str) -> Result<Vec<u8>, Fail> {
 const CASES: &str = "05 01 00 00 00 = 83 c0 01
 83 c0 01 = 83 c0 01
 81 c0 01 00 00 00 = 83 c0 01
+66 83 c0 05 = 66 05 05 00
+66 81 c0 05 00 = 66 05 05 00
 8b c3 = 89 d8
 89 d8 = 89 d8
 8b 05 00 20 00 00 = a1 00 20 00 00
@@ -28,6 +30,7 @@ c1 e0 01 = d1 e0
 8b 04 25 10 00 00 00 = a1 10 00 00 00
 8b 84 20 80 00 00 00 = 8b 80 80 00 00 00
 66 66 2e 26 f0 01 58 7f = 26 66 f0 01 58 7f
+66 66 66 66 66 66 66 66 66 66 66 66 66 66 66 66 01 d8 = 66 01 d8
 f2 f3 a4 = f3 a4
 e9 03 00 00 00 = eb 03
 0f 84 fc ff ff ff = 74 fc
@@ -48,6 +51,19 @@ fn the_wanted_spelling_is_written(rt: HostRuntime) -> Result<(), Fail> {
             },
             _ => panic!(rt; "{line}"),
         }
+    }
+    Ok(())
+}
+
+#[test]
+fn lock_mov_has_no_spelling(rt: HostRuntime) -> Result<(), Fail> {
+    match reading(&[0x89, 0x03]) {
+        Reading::Spelled { op, .. } => {
+            let mut op = op;
+            op.lock = true;
+            assert!(rt; encode(&op).is_none());
+        }
+        _ => panic!(rt; "mov [ebx], eax"),
     }
     Ok(())
 }

@@ -1,0 +1,14 @@
+-- The earliest of the candidates is the shortest of all spellings.
+use Rattle.m386_opmap.proofs.Laws.{spelled_reads}
+use Rattle.m386_encode.proofs.Chosen.{all_reached, shortest_by, none_by}
+use Rattle.m386_encode.proofs.encode.encode.Goals as goal
+
+pub returns : goal.returns
+returns c =
+    let all = all_reached c.args.op.now c.best_of.result c.best_of.ensures.met in
+    let shortest = shortest_by c.args.op.now c.best_of.result c.best_of.ensures.sound all in
+    record {
+      shortest = shortest;
+      none = none_by c.args.op.now c.best_of.result c.best_of.ensures.sound all;
+      read = λ bytes rest e. spelled_reads c.args.op.now bytes.items rest (shortest bytes e).spells;
+    }
