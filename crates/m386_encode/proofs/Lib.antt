@@ -1,4 +1,3 @@
-pub mod Assembled
 pub mod Below
 pub mod Chosen
 pub mod Foremost

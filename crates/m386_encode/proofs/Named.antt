@@ -21,7 +21,7 @@ use Rattle.m386_encode.specs.Order.{is_before}
 use Rattle.m386_encode.proofs.Marks.{IsSegment}
 use Rattle.m386_encode.proofs.Octets.{place_are, place_size}
 use Rattle.m386_encode.proofs.Ordered.{before_self}
-use Rattle.m386_encode.proofs.Places.{Again, AgainOf, Fits, place_again}
+use Rattle.m386_encode.proofs.Places.{Again, AgainOf, Fits, displacement_size, place_again}
 use Rattle.m386_encode.proofs.RowParts.{Names, names, place_said, Shaped, no_low, eight}
 use Rattle.m386_encode.proofs.Segments.{seg_is, seg_of_first, seg_of_second, form_names, form_under, last_is, plain_memory_value}
 use Rattle.m386_encode.proofs.Taken.{its, some_place, place_stands, middle_taken, form_taken, form_free}
@@ -33,6 +33,7 @@ pub record Named (r : Row) (f : Fields) (xs : List Arg) (mode : ℕ) (modrm : Li
   pub mid : ℕ
   pub form : Form (segment xs) (form_bytes r mode xs) mid f.place
   pub first : is_before modrm (form_bytes r mode xs) ≡ false
+  pub sized : displacement_size (form_bytes r mode xs) ≡ displacement_size modrm
   pub are : Bytes (form_bytes r mode xs)
   pub size : length (form_bytes r mode xs) ≤ cond (has_modrm r) 6 0
   pub small : mid < 8
@@ -110,6 +111,7 @@ module _ (r : Row) (ps : List ℕ) (o : ℕ) (modrm tail : List ℕ) (mid : ℕ)
           mid = middle r operands;
           form = subst G (sym at.1) (subst F (sym bytes) again.form);
           first = subst B (sym bytes) again.first;
+          sized = ap displacement_size bytes ∙ again.sized;
           are = subst A (sym bytes) (place_are (middle r operands) mode at.0 key.2);
           size = rw with (omega (arith, ap length bytes, place_size (middle r operands) mode at.0));
           small = key.2;
@@ -135,6 +137,7 @@ module _ (r : Row) (ps : List ℕ) (o : ℕ) (modrm tail : List ℕ) (mid : ℕ)
           mid = mid;
           form = subst F (sym same) form_again;
           first = subst B (sym same) (before_self modrm);
+          sized = ap displacement_size same;
           are = subst A (sym same) are;
           size = omega (arith, ap length bytes);
           small = omega (arith, none.1);

@@ -124,16 +124,34 @@ unfolding place_bytes address_bytes
 stack_bytes seg t mid mode ds e h f =
     rw (base_back t 4 (omega arith), e, displaced_by (displacement_length t 4) ds h f) refl
 
--- What the ModRM byte names, named by the candidate by a mode, in bytes that come not after these.
+size_register : (m : ℕ) → top m ≡ 3 → displacement_size (m ∷ []) ≡ 0
+unfolding displacement_size
+size_register m h = rw (eq-eqb (top m) 3 h) refl
+
+size_based_at : (t mid b : ℕ) (ds : List ℕ) → t < 3 → mid < 8 → b < 8 → b ≢ 4 → displacement_size ((64 * t + 8 * mid + b) ∷ ds) ≡ length ds
+size_based_at t mid b ds ht hm hb n =
+    let m : ℕ = 64 * t + 8 * mid + b in
+    let et : top m ≡ t = omega arith in
+    let eb : low m ≡ b = omega arith in
+    size_based m ds (omega (arith, et)) (λ e. n (sym eb ∙ e))
+
+size_indexed_at : (t mid s : ℕ) (ds : List ℕ) → t < 3 → mid < 8 → displacement_size ((64 * t + 8 * mid + 4) ∷ s ∷ ds) ≡ length ds
+size_indexed_at t mid s ds ht hm =
+    let m : ℕ = 64 * t + 8 * mid + 4 in
+    let et : top m ≡ t = omega arith in
+    size_indexed m s ds (omega (arith, et)) (omega arith)
+
+-- What the ModRM byte names, named by the candidate by a mode, in bytes that come not after these, with as many of displacement.
 pub record Again (seg : Option ℕ) (mid mode : ℕ) (p : Arg) (bs : List ℕ) : Type 0 where
   pub form : Form seg (place_bytes mid mode p) mid (Some p)
   pub first : is_before bs (place_bytes mid mode p) ≡ false
+  pub sized : displacement_size (place_bytes mid mode p) ≡ displacement_size bs
 
-again : (seg : Option ℕ) (mid mode : ℕ) (p : Arg) (bs new : List ℕ) → place_bytes mid mode p ≡ new → Form seg new mid (Some p) → is_before bs new ≡ false → Again seg mid mode p bs
-again seg mid mode p bs new e f g =
+again : (seg : Option ℕ) (mid mode : ℕ) (p : Arg) (bs new : List ℕ) → place_bytes mid mode p ≡ new → Form seg new mid (Some p) → is_before bs new ≡ false → displacement_size new ≡ displacement_size bs → Again seg mid mode p bs
+again seg mid mode p bs new e f g k =
     let P : List ℕ → Type 0 = λ x. Form seg x mid (Some p) in
     let Q : List ℕ → Type 0 = λ x. is_before bs x ≡ false in
-    record { form = subst P (sym e) f; first = subst Q (sym e) g }
+    record { form = subst P (sym e) f; first = subst Q (sym e) g; sized = ap displacement_size e ∙ k }
 
 again_register : (seg : Option ℕ) (m mid mode : ℕ) → mid < 8 → mid ≤ middle m → m < 256 → top m ≡ 3 → Again seg mid mode (Reg (low m)) (m ∷ [])
 unfolding place_bytes is_less
@@ -141,6 +159,7 @@ again_register seg m mid mode hm le b t =
     let whole : low m % 8 ≡ low m = omega arith in
     again seg mid mode (Reg (low m)) (m ∷ []) ((192 + 8 * mid + low m) ∷ []) (rw whole refl) (register_at seg mid (low m) hm (omega arith))
     (not_before (m ∷ []) ((192 + 8 * mid + low m) ∷ []) refl (less_step m (192 + 8 * mid + low m) [] [] (omega arith) refl))
+    (size_register (192 + 8 * mid + low m) (omega arith) ∙ sym (size_register m t))
 
 again_based : (seg : Option ℕ) (m mid mode : ℕ) (ds : List ℕ) → mode_of (base_of (top m) (low m)) mode ≡ top m → mid < 8 → mid ≤ middle m → Bytes (m ∷ ds) → top m ≢ 3 → low m ≢ 4 → length ds ≡ displacement_length (top m) (low m) →
     Again seg mid mode (memory seg (base_of (top m) (low m)) None 1 (displacement ds)) (m ∷ ds)
@@ -150,6 +169,7 @@ again_based seg m mid mode ds o hm le f t n h =
     again seg mid mode (memory seg (base_of (top m) (low m)) None 1 (displacement ds)) (m ∷ ds) ((64 * top m + 8 * mid + low m) ∷ ds)
     (based_bytes seg (top m) mid mode (low m) ds o (omega arith) n h (later m ds f)) (based_at seg (top m) mid (low m) ds small hm (omega arith) n h)
     (not_before (m ∷ ds) ((64 * top m + 8 * mid + low m) ∷ ds) refl (less_step m (64 * top m + 8 * mid + low m) ds ds (omega arith) (less_self ds)))
+    (size_based_at (top m) mid (low m) ds small hm (omega arith) n ∙ sym (size_based m ds t n))
 
 indexed_by : (seg : Option ℕ) (m s mid mode : ℕ) (ds : List ℕ) (four low4 : Bool) → (middle s == 4) ≡ four → (low s == 4) ≡ low4 → mode_of (base_of (top m) (low s)) mode ≡ top m → mid < 8 → mid ≤ middle m → Bytes (m ∷ s ∷ ds) →
     top m ≢ 3 → low m ≡ 4 → length ds ≡ displacement_length (top m) (low s) →
@@ -161,6 +181,7 @@ indexed_by seg m s mid mode ds true false e e' o hm le f t l h =
     again seg mid mode (memory seg (base_of (top m) (low s)) None 1 (displacement ds)) (m ∷ s ∷ ds) ((64 * top m + 8 * mid + low s) ∷ ds)
     (based_bytes seg (top m) mid mode (low s) ds o (omega arith) n h (later s ds (later m (s ∷ ds) f))) (based_at seg (top m) mid (low s) ds small hm (omega arith) n h)
     (not_before_longer (m ∷ s ∷ ds) ((64 * top m + 8 * mid + low s) ∷ ds) (omega arith))
+    (size_based_at (top m) mid (low s) ds small hm (omega arith) n ∙ sym (size_indexed m s ds t l))
 indexed_by seg m s mid mode ds true true e e' o hm le f t l h =
     let byte : m < 256 = f 0 (omega arith) in
     let small : top m < 3 = omega (arith, t) in
@@ -171,7 +192,8 @@ indexed_by seg m s mid mode ds true true e e' o hm le f t l h =
     let P : ℕ → Type 0 = λ x. Again seg mid mode (memory seg (base_of (top m) x) None 1 (displacement ds)) (m ∷ s ∷ ds) in
     subst P (sym z) (again seg mid mode (memory seg (base_of (top m) 4) None 1 (displacement ds)) (m ∷ s ∷ ds) ((64 * top m + 8 * mid + 4) ∷ 36 ∷ ds)
     (stack_bytes seg (top m) mid mode ds o4 h4 (later s ds (later m (s ∷ ds) f))) (indexed_at seg (top m) mid 36 ds small hm h4)
-    (not_before (m ∷ s ∷ ds) ((64 * top m + 8 * mid + 4) ∷ 36 ∷ ds) refl (less_step m (64 * top m + 8 * mid + 4) (s ∷ ds) (36 ∷ ds) (omega arith) (less_step s 36 ds ds (omega arith) (less_self ds)))))
+    (not_before (m ∷ s ∷ ds) ((64 * top m + 8 * mid + 4) ∷ 36 ∷ ds) refl (less_step m (64 * top m + 8 * mid + 4) (s ∷ ds) (36 ∷ ds) (omega arith) (less_step s 36 ds ds (omega arith) (less_self ds))))
+    (size_indexed_at (top m) mid 36 ds small hm ∙ sym (size_indexed m s ds t l)))
 indexed_by seg m s mid mode ds false low4 e e' o hm le f t l h =
     let byte : m < 256 = f 0 (omega arith) in
     let second : s < 256 = f 1 (omega arith) in
@@ -184,6 +206,7 @@ indexed_by seg m s mid mode ds false low4 e e' o hm le f t l h =
     let P : Bool → Type 0 = λ c. Form seg ((64 * top m + 8 * mid + 4) ∷ s ∷ ds) mid (Some (memory seg (base_of (top m) (low s)) (cond c None (Some (middle s))) (cond c 1 (2 ^ top s)) (displacement ds))) in
     again seg mid mode (memory seg (base_of (top m) (low s)) (Some (middle s)) (2 ^ top s) (displacement ds)) (m ∷ s ∷ ds) ((64 * top m + 8 * mid + 4) ∷ s ∷ ds) bytes (subst P e form)
     (not_before (m ∷ s ∷ ds) ((64 * top m + 8 * mid + 4) ∷ s ∷ ds) refl (less_step m (64 * top m + 8 * mid + 4) (s ∷ ds) (s ∷ ds) (omega arith) (less_self (s ∷ ds))))
+    (size_indexed_at (top m) mid s ds small hm ∙ sym (size_indexed m s ds t l))
 
 -- The mode gives memory a displacement of as many bytes as stand there. To a register it means nothing.
 abbrev pub Fits : ℕ → Option Arg → List ℕ → Type 0

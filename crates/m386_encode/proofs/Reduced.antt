@@ -25,7 +25,6 @@ use Rattle.m386_opmap.proofs.Sound.{AreBytes, front_bytes, back_bytes}
 use Rattle.m386_encode.specs.Candidates.{is_middle, is_low, opcode, segment, key_bytes, form_bytes, tail_bytes, prefixes, segment_prefix, candidate}
 use Rattle.m386_encode.specs.Order.{is_before}
 use Rattle.m386_encode.specs.Shortest.{IsSpelling}
-use Rattle.m386_encode.proofs.Assembled.{assembled}
 use Rattle.m386_encode.proofs.Foremost.{marks_first, segment_stands}
 use Rattle.m386_encode.proofs.Least.{AllWithin}
 use Rattle.m386_encode.proofs.Marks.{marks, marks_say, marks_pass, IsSegment}
@@ -181,14 +180,40 @@ module _ (r : Row) (ps : List ℕ) (o : ℕ) (modrm tail : List ℕ) (mid : ℕ)
   same : operation r g tail ≡ meant
   same = same_operation r f g tail narrow_is lock_is rep_is value_first value_second value_third
 
-  spells : suits r said.lock (is_memory place) ≡ true → IsSpelling meant (candidate meant r said.narrow mode)
-  spells suited =
+  joined : parts tail ≡ new ++ (opcode_bytes (opcode r xs) ++ (form_bytes r mode xs ++ tail))
+  joined =
+      append_assoc (new ++ key_bytes (opcode r xs)) (form_bytes r mode xs) tail ∙ ap (λ k. (new ++ k) ++ (form_bytes r mode xs ++ tail)) key_is
+      ∙ append_assoc new (opcode_bytes (opcode r xs)) (form_bytes r mode xs ++ tail)
+
+  respelled_parts : (op : Op) → op ≡ meant → suits r said.lock (is_memory place) ≡ true → Spells op (candidate op r said.narrow mode)
+  respelled_parts op is suited =
+      let bytes : candidate op r said.narrow mode ≡ parts tail = ap (λ (x : Op). candidate x r said.narrow mode) is ∙ is_candidate in
+      let A : List ℕ → Type 0 = AreBytes in
       let F : Option ℕ → Type 0 = λ x. Form x (form_bytes r mode xs) named.mid place in
       let L : Bool → Type 0 = λ x. suits r x (is_memory place) ≡ true in
       let N : Bool → Type 0 = λ x. length tail ≡ tail_length r x in
-      let S : List ℕ → Type 0 = λ x. IsSpelling meant x in
-      subst S (sym is_candidate)
-      (assembled r new (form_bytes r mode xs) tail (opcode r xs) named.mid place meant listed pass.prefixes parts_are key_is (subst F (sym seg_is) named.form) wanted named.covered (subst L (sym lock_is) suited) (subst N (sym narrow_is) whole) same)
+      record {
+        row = r;
+        listed = listed;
+        prefixes = new;
+        opcode = opcode r xs;
+        modrm = form_bytes r mode xs;
+        tail = tail;
+        parts = bytes ∙ joined;
+        are_bytes = subst A (sym bytes) parts_are;
+        are_prefixes = pass.prefixes;
+        middle = named.mid;
+        place = place;
+        form = subst F (sym seg_is) named.form;
+        wanted = wanted;
+        covered = named.covered;
+        suited = subst L (sym lock_is) suited;
+        whole = subst N (sym narrow_is) whole;
+        spelled = is ∙ sym same;
+      }
+
+  sized : displacement_size (form_bytes r mode xs) ≡ displacement_size modrm
+  sized = named.sized
 
   short : length (candidate meant r said.narrow mode) ≤ 15
   short =
@@ -211,21 +236,47 @@ module _ (r : Row) (ps : List ℕ) (o : ℕ) (modrm tail : List ℕ) (mid : ℕ)
       let Q : List ℕ → Type 0 = λ x. is_before (((ps ++ opcode_bytes o) ++ modrm) ++ tail) x ≡ false in
       subst P joined (subst Q (sym is_candidate) all)
 
-  pub reduced_parts : suits r said.lock (is_memory place) ≡ true → Reduced meant r said.narrow mode (ps ++ (opcode_bytes o ++ (modrm ++ tail)))
-  reduced_parts suited = record { spells = spells suited; short = short; first = first }
+-- The candidate of a spelling's row, with 66h where it has that, spelled with as many bytes of displacement.
+pub record Respelled (op : Op) (bytes : List ℕ) (s : Spells op bytes) (mode : ℕ) : Type 0 where
+  pub spelled : Spells op (candidate op s.row (prefixes_of s.prefixes).narrow mode)
+  pub row : spelled.row ≡ s.row
+  pub place : spelled.place ≡ s.place
+  pub sized : displacement_size spelled.modrm ≡ displacement_size s.modrm
+
+-- for each spelling a candidate of its row spells the operation too; where the spelling names memory, by the mode of its displacement
+pub respelled : (op : Op) (bytes : List ℕ) (s : Spells op bytes) (mode : ℕ) → Fits mode s.place s.modrm → Respelled op bytes s mode
+unfolding respelled_parts
+respelled op bytes s mode fits =
+    let A : List ℕ → Type 0 = AreBytes in
+    let are : AreBytes (s.prefixes ++ (opcode_bytes s.opcode ++ (s.modrm ++ s.tail))) = subst A s.parts s.are_bytes in
+    record {
+      spelled = respelled_parts s.row s.prefixes s.opcode s.modrm s.tail s.middle s.place s.listed s.form s.wanted s.covered are s.whole mode fits op s.spelled s.suited;
+      row = refl;
+      place = refl;
+      sized = sized s.row s.prefixes s.opcode s.modrm s.tail s.middle s.place s.listed s.form s.wanted s.covered are s.whole mode fits;
+    }
 
 -- For each spelling of an operation there is a candidate of its row, with 66h where it has that, that spells the operation too,
 -- has at most 15 bytes, and comes not after it. Where the spelling names memory, the mode is that of its displacement.
 pub reduced : (op : Op) (bytes : List ℕ) (s : Spells op bytes) (mode : ℕ) → Fits mode s.place s.modrm → Reduced op s.row (prefixes_of s.prefixes).narrow mode bytes
 reduced op bytes s mode fits =
     let A : List ℕ → Type 0 = AreBytes in
-    let B : List ℕ → Type 0 = λ x. Reduced (operation s.row (fields_at s.prefixes s.opcode s.middle s.place) s.tail) s.row (prefixes_of s.prefixes).narrow mode x in
-    let O : Op → Type 0 = λ x. Reduced x s.row (prefixes_of s.prefixes).narrow mode bytes in
-    subst O (sym s.spelled) (subst B (sym s.parts) (reduced_parts s.row s.prefixes s.opcode s.modrm s.tail s.middle s.place s.listed s.form s.wanted s.covered (subst A s.parts s.are_bytes) s.whole mode fits s.suited))
+    let are : AreBytes (s.prefixes ++ (opcode_bytes s.opcode ++ (s.modrm ++ s.tail))) = subst A s.parts s.are_bytes in
+    let S : Op → Type 0 = λ x. length (candidate x s.row (prefixes_of s.prefixes).narrow mode) ≤ 15 in
+    let B : Op → Type 0 = λ x. is_before bytes (candidate x s.row (prefixes_of s.prefixes).narrow mode) ≡ false in
+    let C : List ℕ → Type 0 = λ x. is_before x (candidate (operation s.row (fields_at s.prefixes s.opcode s.middle s.place) s.tail) s.row (prefixes_of s.prefixes).narrow mode) ≡ false in
+    record {
+      spells = record { spells = (respelled op bytes s mode fits).spelled };
+      short = subst S (sym s.spelled) (short s.row s.prefixes s.opcode s.modrm s.tail s.middle s.place s.listed s.form s.wanted s.covered are s.whole mode fits);
+      first = subst B (sym s.spelled) (subst C (sym s.parts) (first s.row s.prefixes s.opcode s.modrm s.tail s.middle s.place s.listed s.form s.wanted s.covered are s.whole mode fits));
+    }
 
 -- the candidate with a displacement of as many bytes
 pub reduced_alike : (op : Op) (bytes : List ℕ) (s : Spells op bytes) → Reduced op s.row (prefixes_of s.prefixes).narrow (mode_for (displacement_size s.modrm)) bytes
 reduced_alike op bytes s = reduced op bytes s (mode_for (displacement_size s.modrm)) (λ m. refl)
+
+pub respelled_wide : (op : Op) (bytes : List ℕ) (s : Spells op bytes) → (is_memory s.place ≡ true → displacement_size s.modrm ≡ 4) → Respelled op bytes s 2
+respelled_wide op bytes s four = respelled op bytes s 2 (λ m. sym (ap mode_for (four m)))
 
 -- the candidate with a displacement of four bytes, where the spelling has one if it names memory
 pub reduced_wide : (op : Op) (bytes : List ℕ) (s : Spells op bytes) → (is_memory s.place ≡ true → displacement_size s.modrm ≡ 4) → Reduced op s.row (prefixes_of s.prefixes).narrow 2 bytes

@@ -5,7 +5,6 @@ ghost use Rattle.m386_opmap.specs.Readings.{reading_of};
 ghost use Rattle.m386_opmap.specs.Spelling.{Spells};
 ghost use Rattle.m386_opmap.specs.declared.outcome.Reading.TheVariants.{Spelled};
 ghost use Rattle.m386_encode.specs.Candidates.{candidate};
-ghost use Rattle.m386_encode.specs.Order.{is_before};
 ghost use Rattle.m386_encode.specs.Shortest.{IsShortest, IsSpelling, IsSound, IsReached, IsMet, no_row};
 
 use crate::candidate::candidate_of;
