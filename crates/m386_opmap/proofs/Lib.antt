@@ -1,3 +1,4 @@
+pub mod Below
 pub mod Complete
 pub mod Find
 pub mod Lawful

@@ -3,6 +3,7 @@
 
 pub mod fields;
 mod form;
+mod lookup;
 pub mod name;
 pub mod op;
 mod operand;

@@ -9,10 +9,11 @@ ghost use Rattle.m386_opmap.specs.Readings.{tail_reading, displaced_reading, sib
 ghost use Rattle.m386_opmap.specs.Spelling.{Spells, IsReadingOf};
 
 use crate::fields::{Fields, Prefixes};
+use crate::lookup::Lookup;
 use crate::op::{Addr, Arg};
 use crate::outcome::Reading;
 use crate::row::Row;
-use crate::rows::ROWS;
+use crate::rows::{ESCAPED_ROWS_BELOW, ROWS, ROWS_BELOW};
 use crate::{form, operand};
 
 /// The row of a table that covers a key.
@@ -179,39 +180,40 @@ fn read_opcode(rows: &[Row], prefixes: &Prefixes, opcode: u16, at: usize, rest: 
 
 /// Reads the second byte of an opcode, at this place.
 #[tactic(auto, unfolding(crate::specs::Readings::second_reading))]
-fn read_second(rows: &[Row], prefixes: &Prefixes, at: usize, rest: &[u8]) -> Reading
+fn read_second(table: &Lookup, prefixes: &Prefixes, at: usize, rest: &[u8]) -> Reading
     requires { at + length rest.now < 2 ^ 64 }
-    ensures { result ≡ second_reading rows.now prefixes.now at rest.now }
+    ensures { result ≡ second_reading table.now.rows.now prefixes.now at rest.now }
 {
     let [byte, rest @ ..] = rest else {
         return Reading::More;
     };
+    let rows = table.from_second_byte(*byte);
     read_opcode(rows, prefixes, 0xf00 + u16::from(*byte), at, rest)
 }
 
 /// Reads an opcode whose first byte stands at this place.
 #[tactic(auto, unfolding(crate::specs::Readings::first_reading))]
-fn read_first(rows: &[Row], prefixes: &Prefixes, byte: u8, at: usize, rest: &[u8]) -> Reading
+fn read_first(table: &Lookup, prefixes: &Prefixes, byte: u8, at: usize, rest: &[u8]) -> Reading
     requires { at + length rest.now + 1 < 2 ^ 64 }
-    ensures { result ≡ first_reading rows.now prefixes.now byte at rest.now }
+    ensures { result ≡ first_reading table.now.rows.now prefixes.now byte at rest.now }
 {
     if byte == 0x0f {
-        read_second(rows, prefixes, at + 1, rest)
+        read_second(table, prefixes, at + 1, rest)
     } else {
-        read_opcode(rows, prefixes, u16::from(byte), at, rest)
+        read_opcode(table.from_byte(byte), prefixes, u16::from(byte), at, rest)
     }
 }
 
 /// What bytes read as by a table of rows.
 #[tactic(auto, using(crate::proofs::Find::prefixed_steps), unfolding(crate::specs::Readings::reading_by))]
-fn read(rows: &[Row], bytes: &[u8]) -> Reading
-    ensures { result ≡ reading_by rows.now bytes.now }
+fn read(table: &Lookup, bytes: &[u8]) -> Reading
+    ensures { result ≡ reading_by table.now.rows.now bytes.now }
 {
     let mut prefixes = Prefixes::none();
     for (at, byte) in bytes.iter().enumerate() {
         match prefixes.with(*byte) {
             Some(said) => prefixes = said,
-            None => return read_first(rows, &prefixes, *byte, at, &bytes[at + 1..]),
+            None => return read_first(table, &prefixes, *byte, at, &bytes[at + 1..]),
         }
     }
     Reading::More
@@ -221,7 +223,12 @@ fn read(rows: &[Row], bytes: &[u8]) -> Reading
 fn read_opcodes(bytes: &[u8]) -> Reading
     ensures { result ≡ reading_of bytes.now }
 {
-    read(&ROWS, bytes)
+    let table = Lookup {
+        rows: &ROWS,
+        below: &ROWS_BELOW,
+        escaped_below: &ESCAPED_ROWS_BELOW,
+    };
+    read(&table, bytes)
 }
 
 /// What bytes read as: the operation that they begin with and the number of its bytes; `More` where they begin a spelling

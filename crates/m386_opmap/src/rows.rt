@@ -2,7 +2,7 @@
 //! where the row has one, the operation, its size, its operands, and `lock` where LOCK may stand before it.
 ghost use Rattle.std.specs.Prelude.{◌≡◌, ℕ, true, Contains};
 ghost use Rattle.m386_opmap.specs.Opcodes.{opcode_rows};
-ghost use Rattle.m386_opmap.specs.Rows.{Covers, rising};
+ghost use Rattle.m386_opmap.specs.Rows.{Covers, counts_from, rising};
 ghost use Rattle.m386_opmap.specs.declared.row.Row.{Row};
 
 use crate::name::Name;
@@ -71,6 +71,16 @@ macro_rules! rows {
             lock: has_lock!($($mark)?),
             newer: false,
         }),*]
+    };
+}
+
+/// For each of some counts, a number and the counts that stand before it.
+macro_rules! sums {
+    ([$($sums:expr),*] $sum:expr;) => {
+        [$($sums),*]
+    };
+    ([$($sums:expr),*] $sum:expr; $count:literal $($rest:literal)*) => {
+        sums!([$($sums,)* $sum] $sum + $count; $($rest)*)
     };
 }
 
@@ -405,9 +415,34 @@ pub const ROWS: [Row; 327] = rows![
     0x0fbf Movsx16 Either (G E);
 ];
 
+/// For each eight opcodes of one byte, how many rows end below them. Written are the rows that end in each eight, a line
+/// for 64 opcodes.
+pub const ROWS_BELOW: [u16; 32] = sums!([] 0;
+    8 7 8 8 6 6 6 6
+    1 1 1 1 4 4 8 8
+    28 9 2 8 8 8 1 1
+    20 7 29 1 8 8 16 15
+);
+
+/// For each eight opcodes 0Fh xx, how many rows end below them. Written are the rows of one byte, and those that end in each
+/// eight.
+pub const ESCAPED_ROWS_BELOW: [u16; 32] = sums!([] 252;
+    15 0 0 0 2 0 0 0
+    0 0 0 0 0 0 0 0
+    8 8 8 8 5 6 6 9
+    0 0 0 0 0 0 0 0
+);
+
 /// The table is the one that the manual's opcode map gives.
 pub fn rows_are_the_opcodes()
     ensures { ROWS ≡ opcode_rows }
+{}
+
+/// The counts are those of the table.
+#[tactic(auto, unfolding(crate::specs::Rows::counts_from, crate::specs::Rows::rows_below))]
+pub fn counts_are_of_the_rows()
+    ensures one_byte { ROWS_BELOW ≡ counts_from 0 32 opcode_rows }
+    ensures escaped { ESCAPED_ROWS_BELOW ≡ counts_from 0xf00 32 opcode_rows }
 {}
 
 /// The rows rise, and each ends below the begin of the next.

@@ -4,4 +4,4 @@ use Rattle.m386_opmap.specs.Readings.{prefixed_reading, reading_by}
 use Rattle.m386_opmap.proofs.reading.read.Given as goal
 
 abbrev pub invariant-loop-at : goal.invariant-loop-at
-invariant-loop-at l = prefixed_reading l.rows l.prefixes l.at (drop l.at l.bytes) ≡ reading_by l.rows l.bytes
+invariant-loop-at l = prefixed_reading l.table.rows.now l.prefixes l.at (drop l.at l.bytes) ≡ reading_by l.table.rows.now l.bytes
