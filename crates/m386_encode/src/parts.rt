@@ -1,13 +1,13 @@
 //! The parts of a spelling, from an operation and a row.
 ghost use Rattle.std.specs.Prelude.{◌≡◌, ℕ, ◌+◌, ◌<◌, ◌≤◌, ◌++◌, get_or};
 ghost use Rattle.arrayvec.specs.ArrayVec.{array_vec_len};
-ghost use Rattle.m386_opmap.specs.Forms.{displacement_length};
-ghost use Rattle.m386_opmap.specs.Operands.{operand_length};
 ghost use Rattle.m386_encode.specs.Candidates.{lowest, operand, segment, segment_prefix, rep_prefix, byte_if, prefixes, register, is_low, is_middle, is_place, key_bytes, opcode, middle, base, mode_of, index, scale, address_bytes, place_bytes, form_bytes, operand_bytes, tail_bytes};
 
 use arrayvec::ArrayVec;
 use m386_base::number::Width;
+use m386_opmap::form::displacement_len;
 use m386_opmap::op::{Addr, Arg, Op, Rep};
+use m386_opmap::operand::length_of;
 use m386_opmap::row::{Operand, Row};
 
 /// The bytes of a spelling.
@@ -241,19 +241,6 @@ fn write_address(bytes: &mut Bytes, middle: u8, mode: u8, address: &Addr)
     }
 }
 
-/// How many bytes of displacement there are, by mode and base.
-fn displacement_len(mode: u8, base: u8) -> usize
-    ensures exact { result ≡ displacement_length mode base }
-    ensures few { result ≤ 4 }
-{
-    match (mode, base) {
-        (0, 5) => 4,
-        (0, _) => 0,
-        (1, _) => 1,
-        _ => 4,
-    }
-}
-
 /// Writes ModRM byte, SIB byte and displacement of what the ModRM byte names, by the mode.
 #[tactic(auto, unfolding(crate::specs::Candidates::place_bytes))]
 fn write_place(bytes: &mut Bytes, middle: u8, mode: u8, place: Arg)
@@ -286,26 +273,6 @@ pub fn write_form(bytes: &mut Bytes, row: &Row, mode: u8, args: &[Arg])
         write_place(bytes, middle, mode, argument(args, 0));
     } else if is_named(row.second) {
         write_place(bytes, middle, mode, argument(args, 1));
-    }
-}
-
-/// How many bytes behind opcode and ModRM are an operand's.
-fn length_of(width: Width, operand: Operand) -> usize
-    ensures exact { result ≡ operand_length width operand }
-    ensures few { result ≤ 6 }
-{
-    let size = match width {
-        Width::W8 => 1,
-        Width::W16 => 2,
-        Width::W32 => 4,
-    };
-    match operand {
-        Operand::I | Operand::J => size,
-        Operand::Ib | Operand::SignedByte | Operand::Jb => 1,
-        Operand::Iw => 2,
-        Operand::O => 4,
-        Operand::A => size + 2,
-        _ => 0,
     }
 }
 

@@ -2,7 +2,8 @@
 ghost use Rattle.std.specs.Prelude.{◌≡◌, ◌<◌, ◌≤◌};
 ghost use Rattle.m386_opmap.specs.Forms.{top, middle, low, displacement_length, base_of, index_of, scale_of};
 
-/// How many bytes of displacement there are, by mod and the base.
+/// How many bytes of displacement there are, by mod and the base (PRM 17.2.1, tables 17-3 and 17-4): 0, 1 or 4. With mod 3
+/// the ModRM byte names a register, and the answer says nothing.
 pub fn displacement_len(mode: u8, base: u8) -> usize
     ensures exact { result ≡ displacement_length mode base }
     ensures few { result ≤ 4 }
@@ -16,7 +17,7 @@ pub fn displacement_len(mode: u8, base: u8) -> usize
 }
 
 /// The base register, by mod and the base. With mod 0 a base of 5 is none.
-pub fn base(mode: u8, base: u8) -> Option<u8>
+pub(crate) fn base(mode: u8, base: u8) -> Option<u8>
     ensures { result ≡ base_of mode base }
 {
     if mode == 0 && base == 5 {
@@ -27,7 +28,7 @@ pub fn base(mode: u8, base: u8) -> Option<u8>
 }
 
 /// The index register of a SIB byte. 4 is none.
-pub fn index(sib: u8) -> Option<u8>
+pub(crate) fn index(sib: u8) -> Option<u8>
     ensures { result ≡ index_of sib }
 {
     match sib / 8 % 8 {
@@ -37,7 +38,7 @@ pub fn index(sib: u8) -> Option<u8>
 }
 
 /// The scale of a SIB byte, which without an index is 1.
-pub fn scale(sib: u8) -> u8
+pub(crate) fn scale(sib: u8) -> u8
     ensures { result ≡ scale_of sib }
 {
     if sib / 8 % 8 == 4 { 1 } else { 1 << (sib / 64) }

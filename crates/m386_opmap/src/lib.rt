@@ -2,11 +2,11 @@
 #![tactic(auto)]
 
 pub mod fields;
-mod form;
+pub mod form;
 mod lookup;
 pub mod name;
 pub mod op;
-mod operand;
+pub mod operand;
 pub mod outcome;
 pub mod reading;
 pub mod row;

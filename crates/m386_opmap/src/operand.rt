@@ -13,7 +13,7 @@ use arrayvec::ArrayVec;
 use m386_base::number::Width;
 
 /// How wide operands are, with the prefix 66h and without it.
-pub fn width(size: Size, narrow: bool) -> Width
+pub(crate) fn width(size: Size, narrow: bool) -> Width
     ensures { result ≡ width_of size narrow }
 {
     match size {
@@ -48,7 +48,7 @@ fn stands_in_modrm(operand: Operand) -> bool
 }
 
 /// Whether a row has a ModRM byte.
-pub fn is_with_modrm(row: &Row) -> bool
+pub(crate) fn is_with_modrm(row: &Row) -> bool
     ensures { result ≡ has_modrm row.now }
 {
     stands_in_modrm(row.first) || stands_in_modrm(row.second) || stands_in_modrm(row.third)
@@ -83,7 +83,7 @@ fn is_with_register(row: &Row) -> bool
 }
 
 /// Whether a row takes a LOCK, if there is one, and a ModRM byte that names memory, or a register.
-pub fn is_suited(row: &Row, lock: bool, memory: bool) -> bool
+pub(crate) fn is_suited(row: &Row, lock: bool, memory: bool) -> bool
     ensures { result ≡ suits row.now lock memory }
 {
     let with_memory = is_with_memory(row);
@@ -91,8 +91,9 @@ pub fn is_suited(row: &Row, lock: bool, memory: bool) -> bool
     (!lock || row.lock && memory) && (!with_memory || memory) && (!with_register || !memory)
 }
 
-/// How many bytes behind opcode and ModRM are an operand's.
-fn length_of(width: Width, operand: Operand) -> usize
+/// How many bytes behind opcode, ModRM byte and what belongs to that are an operand's, in an operation of a width: 0 to 6
+/// (PRM appendix A).
+pub fn length_of(width: Width, operand: Operand) -> usize
     ensures exact { result ≡ operand_length width operand }
     ensures few { result ≤ 6 }
 {
@@ -108,7 +109,7 @@ fn length_of(width: Width, operand: Operand) -> usize
 
 /// How many bytes stand behind opcode and ModRM, with the prefix 66h and without it.
 #[tactic(auto, unfolding(crate::specs::Operands::tail_length))]
-pub fn tail_len(row: &Row, narrow: bool) -> usize
+pub(crate) fn tail_len(row: &Row, narrow: bool) -> usize
     ensures exact { result ≡ tail_length row.now narrow }
     ensures few { result ≤ 18 }
 {
@@ -160,7 +161,7 @@ fn extended_word(word: u16) -> u32
 
 /// The displacement that some bytes make: a byte with its sign, four bytes whole, or 0 without any.
 #[tactic(auto, unfolding(crate::specs::Forms::displacement))]
-pub fn displacement_of(bytes: &[u8]) -> u32
+pub(crate) fn displacement_of(bytes: &[u8]) -> u32
     requires { length bytes.now ≤ 4 }
     ensures { result ≡ displacement bytes.now }
 {
@@ -266,7 +267,7 @@ fn append(args: &mut ArrayVec<Arg, 3>, arg: Option<Arg>)
 }
 
 /// Whether an operation is one on strings.
-pub fn is_on_strings(name: Name) -> bool
+pub(crate) fn is_on_strings(name: Name) -> bool
     ensures { result ≡ is_string name }
 {
     matches!(
@@ -277,7 +278,7 @@ pub fn is_on_strings(name: Name) -> bool
 
 /// The operation of a row, from the fields of the instruction and the bytes behind opcode and ModRM.
 #[tactic(auto, unfolding(crate::specs::Operands::operation))]
-pub fn operation_of(row: &Row, fields: &Fields, tail: &[u8]) -> Op
+pub(crate) fn operation_of(row: &Row, fields: &Fields, tail: &[u8]) -> Op
     ensures { result ≡ operation row.now fields.now tail.now }
 {
     let width = width(row.size, fields.prefixes.narrow);
