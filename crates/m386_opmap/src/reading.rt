@@ -44,6 +44,8 @@ fn beginning(rows: &[Row], lock: bool, opcode: u16) -> Option<Row>
 }
 
 /// Reads the bytes behind opcode and ModRM, of which the first stands at this place.
+// Inlined, since an answer is large, and each call that isn't inlined copies it.
+#[inline(always)]
 #[tactic(auto, unfolding(crate::specs::Readings::tail_reading))]
 fn read_tail(row: &Row, fields: &Fields, at: usize, rest: &[u8]) -> Reading
     requires { at + length rest.now < 2 ^ 64 }
@@ -157,6 +159,8 @@ fn read_modrm(rows: &[Row], prefixes: &Prefixes, opcode: u16, at: usize, rest: &
 }
 
 /// Reads what stands behind an opcode, whose last byte stands at this place.
+// Inlined as `read_tail` is.
+#[inline(always)]
 #[tactic(auto, unfolding(crate::specs::Readings::opcode_reading))]
 fn read_opcode(rows: &[Row], prefixes: &Prefixes, opcode: u16, at: usize, rest: &[u8]) -> Reading
     requires opcode { opcode < 4096 }
