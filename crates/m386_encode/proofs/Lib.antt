@@ -6,6 +6,7 @@ pub mod Least
 pub mod Named
 pub mod Octets
 pub mod Ordered
+pub mod RoundTrip
 pub mod RowParts
 pub mod Places
 pub mod Read

@@ -1,3 +1,4 @@
 pub mod Candidates
 pub mod Order
+pub mod RoundTrip
 pub mod Shortest

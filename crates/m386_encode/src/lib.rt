@@ -5,4 +5,5 @@ mod candidate;
 pub mod encode;
 mod order;
 mod parts;
+pub mod round_trip;
 mod same;
