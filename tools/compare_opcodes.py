@@ -48,6 +48,7 @@ GROUP_ALIASES = {
     **{(o, 6): "a second code of SHL" for o in (0xC0, 0xC1, 0xD0, 0xD1, 0xD2, 0xD3)},
     (0xF6, 1): "a second code of TEST", (0xF7, 1): "a second code of TEST",
 }
+CONTROL_MEMORY = {0xF20, 0xF22}
 CONTROL = {(0x0F20, n) for n in range(1, 8)} | {(0x0F22, n) for n in range(1, 8)}
 # How objdump and nasm name what the table names otherwise.
 NAMES = {
@@ -56,8 +57,8 @@ NAMES = {
     "Pushf": {"pushf", "pushfw"}, "Popf": {"popf", "popfw"}, "Iret": {"iret", "iretw"}, "Retf": {"retf", "retfw"},
     "Ret": {"ret", "retw"}, "Leave": {"leave", "leavew"}, "Movzx8": {"movzx"}, "Movzx16": {"movzx"},
     "Movsx8": {"movsx"}, "Movsx16": {"movsx"}, "Mov": {"mov", "movabs"}, "Nop": {"nop"}, "Jecxz": {"jecxz"},
-    "Lgdt": {"lgdtd"}, "Sgdt": {"sgdtd"}, "Lidt": {"lidtd"}, "Sidt": {"sidtd"},
-    "Call": {"call", "callw"}, "Jmp": {"jmp", "jmpw"}, "Push": {"push", "pushw"},
+    "Lgdt": {"lgdtd", "lgdtw"}, "Sgdt": {"sgdtd", "sgdtw"}, "Lidt": {"lidtd", "lidtw"}, "Sidt": {"sidtd", "sidtw"},
+    "Call": {"call", "callw"}, "Jmp": {"jmp", "jmpw"}, "Push": {"push", "pushw"}, "Pop": {"pop", "popw"},
 }
 STRINGS = {"Movs", "Cmps", "Stos", "Lods", "Scas"}
 
@@ -230,20 +231,20 @@ def against_locks(table):
     return wrong
 
 
-def disassembled(strings):
-    """objdump's mnemonic and length for each string of bytes, which are laid 16 apart."""
+def disassembled(strings, apart=16):
+    """objdump's mnemonic and length for each string of bytes, which are laid so many bytes apart, with NOPs between them."""
     with tempfile.TemporaryDirectory() as folder:
         name = folder + "/all.bin"
         with open(name, "wb") as image:
             for s in strings:
-                image.write(s + b"\x90" * (16 - len(s)))
+                image.write(s + b"\x90" * (apart - len(s)))
         run = subprocess.run(["objdump", "-D", "-z", "-w", "-b", "binary", "-m", "i386", "-M", "intel", name], capture_output=True, text=True, check=True)
     found = {}
     for entry in run.stdout.splitlines():
         m = re.match(r"\s*([0-9a-f]+):\t([0-9a-f ]+?)\s*\t(.*)$", entry)
         if m:
             found[int(m.group(1), 16)] = (m.group(3).split(), len(m.group(2).split()))
-    return [found.get(16 * i, (["(bad)"], 1)) for i in range(len(strings))]
+    return [found.get(apart * i, (["(bad)"], 1)) for i in range(len(strings))]
 
 
 def expected_names(row):
@@ -252,13 +253,33 @@ def expected_names(row):
     return NAMES.get(row.name, {row.name.lower()})
 
 
+def left_out(table, opcode, middle, register):
+    """Why objdump may know an opcode with a /n that no row takes here, by memory or register; None where it may not."""
+    row = next((r for r in table if r.covers(opcode, middle)), None)
+    if opcode in CONTROL_MEMORY and not register:
+        return "MOV with a control register that names memory, where processors ignore mod"
+    if row is None:
+        known = [LEFT_OUT.get(opcode), ALIASES.get(opcode), GROUP_ALIASES.get((opcode, middle)), LATER_GROUPS.get((opcode, middle))]
+        if any(known):
+            return next(filter(None, known))
+        if (opcode, middle) in CONTROL:
+            return "MOV with CR2, CR3 and control registers of no processor"
+        if (opcode, middle) in NO_SEGMENT:
+            return "segment registers 6 and 7, and CS, which can't be loaded"
+    elif register and opcode in (0x62, 0xC4, 0xC5):
+        return "the vector prefixes of later processors"
+    if opcode >= 0xF00 and not any(r.first <= opcode <= r.last for r in table):
+        return "opcodes of later processors"
+    if opcode == 0xF01 and (middle in (5, 7) or register) or opcode == 0xF00 and middle >= 6:
+        return "opcodes of later processors"
+    return None
+
+
 def difference(table, opcode, middle, register, words, length):
     """What is wrong with objdump's answer for an opcode and /n, None where it is the table's or a choice."""
     word = next((w for w in words if w not in ("lock", "rep", "repz", "repnz", "data16")), "(bad)")
     row = next((r for r in table if r.covers(opcode, middle)), None)
     alone = row and ("M" in row.operands and register or "R" in row.operands and not register)
-    if opcode in CONTROL_MEMORY and not register:
-        return None  # MOV with CR0 that names memory is refused, where a processor ignores the two bits
     if row and not alone:
         if row.name in ("Esc", "Wait"):
             return None if word.startswith("f") or word == "(bad)" else f"objdump has {word}"  # of the coprocessor
@@ -267,27 +288,12 @@ def difference(table, opcode, middle, register, words, length):
         if word not in expected_names(row) or length != wanted:
             return f"the table has {row.name} of {wanted} bytes, objdump {word} of {length}"
         return None
-    if word == "(bad)":
+    if word == "(bad)" or left_out(table, opcode, middle, register):
         return None
-    if opcode in LEFT_OUT or opcode in ALIASES or (opcode, middle) in GROUP_ALIASES or (opcode, middle) in CONTROL or (opcode, middle) in LATER_GROUPS or (opcode, middle) in NO_SEGMENT:
-        return None
-    if alone and opcode in (0x62, 0xC4, 0xC5):
-        return None  # the vector prefixes of later processors
-    if opcode >= 0xF00 and opcode not in DEFINED_PAGE:
-        return None  # opcodes of later processors
-    if opcode == 0xF01:
-        return None if middle == 7 or register else f"objdump has {word}"  # INVLPG and others of later processors
-    if opcode == 0xF00 and middle >= 6:
-        return None  # of later processors
     return f"no row, objdump has {word}"
 
 
-CONTROL_MEMORY = {0xF20, 0xF22}
-DEFINED_PAGE = set()
-
-
 def against_objdump(table):
-    DEFINED_PAGE.update(o for r in table for o in range(r.first, r.last + 1) if o >= 0xF00)
     wanted = []
     for opcode in [o for o in range(0x100) if o not in PREFIXES and o != 0x0F] + list(range(0xF00, 0x1000)):
         for middle in range(8):
