@@ -5,10 +5,11 @@ usage: tools/compare_decoder.py [COUNT [SEED]]
 
 COUNT strings (100,000) of sixteen bytes are drawn by the seed (386): half of them uniformly, and half as random prefixes, an
 opcode, a ModRM byte that often wants a SIB byte, and random bytes. Each is decoded by a program over m386_decode, which this
-script proves and builds in a scratch repository, and by objdump. Length and name must be the same, or neither know an operation.
-`CHOICES` lists the differences that are choices of this project, or of objdump's text, each with its reason; it is printed how
-often each was met. Any other difference is printed, and the exit status is 1.
+script proves and builds in a scratch repository, and by objdump. Length, name and operands must be the same, or neither know an
+operation. `CHOICES` lists the differences that are choices of this project, or of objdump's text, each with its reason; it is
+printed how often each was met. Any other difference is printed, and the exit status is 1.
 """
+import itertools
 import random
 import subprocess
 import sys
@@ -16,15 +17,17 @@ import tempfile
 from collections import Counter
 
 import compare_opcodes as opcodes
+import operand_text
 from built_program import built
 
 SIZE = 16
 ADDRESS_SIZE = 0x67
 LOCK = 0xF0
+WIDTHS = {"W8": 8, "W16": 16, "W32": 32}
 REPEATS = {0xF2, 0xF3}
 WORDS = {"lock", "rep", "repz", "repnz", "data16", "addr16", "bnd", "notrack", "xacquire", "xrelease", "cs", "ds", "es", "fs", "gs", "ss"}
 
-PROGRAM = """//! Prints of each string of sixteen bytes the length and name of the operation that it begins with, or the exception.
+PROGRAM = """//! Prints of each string of sixteen bytes the operation that it begins with and its length, or the exception.
 #![tactic(auto)]
 
 use m386_base::fault::Break;
@@ -38,9 +41,12 @@ fn main(rt: HostRuntime) -> io::Result<()> {
     rt.stdin().read_to_end(&mut bytes)?;
     for string in bytes.as_slice().chunks(SIZE) {
         match decode_bytes(string) {
-            Ok(decoded) => println!(rt; "{} {:?}", decoded.len, decoded.op.name)?,
-            Err(Break::Fault(fault)) => println!(rt; "0 {}", fault.vector)?,
-            Err(Break::Stop(_)) => println!(rt; "0 paused")?,
+            Ok(decoded) => {
+                let op = decoded.op;
+                println!(rt; "{} {:?} {:?} {:?}", decoded.len, op.name, op.width, op.args.as_slice())?;
+            }
+            Err(Break::Fault(fault)) => println!(rt; "0 {} - -", fault.vector)?,
+            Err(Break::Stop(_)) => println!(rt; "0 paused - -")?,
         }
     }
     Ok(())
@@ -65,27 +71,30 @@ def shaped(dice):
 
 
 def decoded(strings):
-    """The decoder's length and name for each string, the length 0 and a vector where there is no operation."""
+    """The decoder's length, name, width and operands for each string, the length 0 and a vector where there is no operation."""
     with tempfile.TemporaryDirectory() as folder:
         program = built(folder, "decode_lines", PROGRAM, ["m386_base", "m386_decode"])
         run = subprocess.run([program], input=b"".join(strings), capture_output=True, check=True)
-    lines = [line.split() for line in run.stdout.decode().splitlines()]
+    lines = [line.split(" ", 3) for line in run.stdout.decode().splitlines()]
     if len(lines) != len(strings):
         sys.exit(f"{len(lines)} answers for {len(strings)} strings")
-    return [(int(length), name) for length, name in lines]
+    return lines
 
 
 class Case:
     """A string of bytes, what the decoder answers, and what objdump does."""
 
-    def __init__(self, table, data, ours, theirs):
+    def __init__(self, table, data, address, ours, theirs):
         self.table = table
         self.data = data
-        self.length, self.name = ours
+        self.address = address
+        length, self.name, self.width, self.operands = ours
+        self.length = int(length)
         words, self.other_length = theirs
-        rest = [w for w in words if w.split(",")[0] not in WORDS]
+        rest = list(itertools.dropwhile(lambda w: w.split(",")[0] in WORDS, words))
         self.words = words
         self.other = rest[0].split(",")[0] if rest else words[-1]
+        self.other_operands = " ".join(rest[1:])
         self.behind = next((i for i, b in enumerate(data) if b not in opcodes.PREFIXES), len(data))
         self.prefixes = set(data[: self.behind])
         self.opcode, at = opcodes.opcode_of(data + bytes(3))
@@ -104,10 +113,17 @@ class Case:
         if self.length == 0:
             return not self.is_known()
         named = self.name == self.row.name and self.other in opcodes.expected_names(self.row)
-        return self.is_known() and named and self.length == self.other_length
+        return self.is_known() and named and self.length == self.other_length and self.has_same_operands()
+
+    def has_same_operands(self):
+        if self.name in ("Esc", "Wait"):
+            return True
+        others = operand_text.shown(self.name, self.other_operands)
+        end = self.address + self.length
+        return operand_text.are_same(self.name, operand_text.printed(self.operands), others, WIDTHS[self.width], end)
 
     def __str__(self):
-        return f"{self.data.hex(' ')}: the decoder has {self.length} {self.name}, objdump {self.other_length} {' '.join(self.words)}"
+        return f"{self.data.hex(' ')}: the decoder has {self.length} {self.name} {self.width} {self.operands}, objdump {self.other_length} {' '.join(self.words)}"
 
 
 def is_left_out(case):
@@ -154,8 +170,8 @@ def main():
     table = opcodes.rows()
     strings = drawn(count, seed)
     met, wrong = Counter(), 0
-    for data, ours, theirs in zip(strings, decoded(strings), opcodes.disassembled(strings, 2 * SIZE)):
-        case = Case(table, data, ours, theirs)
+    for i, (data, ours, theirs) in enumerate(zip(strings, decoded(strings), opcodes.disassembled(strings, 2 * SIZE))):
+        case = Case(table, data, 2 * SIZE * i, ours, theirs)
         if case.is_same():
             met["the same operation" if case.length else "no operation on either side"] += 1
             continue
