@@ -1,5 +1,5 @@
 -- No step has more than 192 cycles, and none ends in a fault.
-use Rattle.std.proofs.Common.{◌≡◌, ℕ, ◌+◌, ◌-◌, ◌/◌, ◌%◌, ◌≤◌, ◌^◌, List, [], ◌∷◌, length, refl, arith, true, false, cond, Bool, nat_le, ◌&&◌, ◌==◌, Result, Ok, Err}
+use Rattle.std.proofs.Common.{◌≡◌, ℕ, ◌+◌, ◌-◌, ◌/◌, ◌%◌, ◌≤◌, ◌^◌, List, [], ◌∷◌, length, refl, arith, true, false, cond, Bool, nat_le, nat_lt, ◌&&◌, ◌==◌, Result, Ok, Err}
 use Rattle.m386_base.specs.declared.ask.Role.{Role}
 use Rattle.m386_base.specs.declared.ask.Role.TheVariants.{Operand}
 use Rattle.m386_base.specs.declared.ask.Space.TheVariants.{Memory}
@@ -17,7 +17,7 @@ use Rattle.m386_step.specs.declared.operation.Operation.{Operation}
 use Rattle.m386_step.specs.declared.operation.Operation.TheVariants.{Exchange, Load, Store, Move, Near, Short, Halt, Undefined}
 use Rattle.m386_step.specs.Access.{memory_pieces, reads, writes, read_phrase, write_phrase}
 use Rattle.m386_step.specs.Exchange.{locked_reads, locked_writes, swap_phrase, swap_register_phrase, exchange_phrase}
-use Rattle.m386_step.specs.Fetch.{byte_phrase, number_phrase, taken, fetch_ask}
+use Rattle.m386_step.specs.Fetch.{byte_phrase, group_phrase, linear, number_phrase, taken, fetch_ask}
 use Rattle.m386_step.specs.Halt.{halted, silent, halt_phrase}
 use Rattle.m386_step.specs.Instruction.{operation_phrase, instruction_phrase}
 use Rattle.m386_step.specs.Jump.{near_phrase, short_phrase}
@@ -25,11 +25,15 @@ use Rattle.m386_step.specs.Moves.{move_phrase, load_phrase, store_phrase}
 use Rattle.m386_step.specs.Opcode.{operation_named}
 use Rattle.m386_step.specs.Step.{is_due, running_phrase, turn_phrase, step_phrase}
 
-short_byte : (r : Reader) → AtMost 1 (byte_phrase r)
-unfolding byte_phrase ◌>>=◌
-short_byte r =
-    let group = r.at - r.at % 4 in
+short_group : (r : Reader) → AtMost 1 (group_phrase r)
+unfolding group_phrase ◌>>=◌
+short_group r =
+    let group = linear r - linear r % 4 in
     at_most_if 1 (r.fetched && (r.group == group)) (Done (taken r)) (one (fetch_ask group) >>= (λ v. Done (taken (record r { fetched = true; group = group; value = v })))) tt (λ v. tt)
+
+short_byte : (r : Reader) → AtMost 1 (byte_phrase r)
+unfolding byte_phrase
+short_byte r = at_most_if 1 (nat_lt r.limit r.at) _ _ tt (short_group r)
 
 short_number : (r : Reader) → AtMost 4 (number_phrase r)
 unfolding number_phrase

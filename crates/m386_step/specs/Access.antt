@@ -1,17 +1,12 @@
 -- Operands in memory.
-use Rattle.std.specs.Prelude.{ℕ, Bool, true, false, List, [], ◌∷◌, ◌+◌, ◌^◌, bit_or, nat_le, if◌then◌else◌, Some}
+use Rattle.std.specs.Prelude.{ℕ, Bool, true, false, List, [], ◌∷◌, ◌+◌, ◌^◌, bit_or, nat_le, if◌then◌else◌}
 use Rattle.m386_base.specs.declared.ask.Ask.{Ask}
 use Rattle.m386_base.specs.declared.ask.Space.TheVariants.{Memory}
 use Rattle.m386_base.specs.declared.ask.Role.{Role}
-use Rattle.m386_base.specs.declared.fault.Fault.{Fault}
 use Rattle.m386_base.specs.declared.split.Piece.{Piece}
 use Rattle.m386_base.specs.Split.{pieces, gather_of, spread_of}
 use Rattle.m386_base.specs.Phrase.{Phrase, Done, Faults, ◌>>=◌, one}
-
--- #GP(0).
--- Source: Intel 80386 PRM 9.8.13
-abbrev pub general_protection_of : Fault
-general_protection_of = record { vector = 13; code = Some 0 }
+use Rattle.m386_step.specs.Faults.{general_protection_of}
 
 -- the groups of an operand
 abbrev pub memory_pieces : ℕ → ℕ → List Piece

@@ -1,20 +1,15 @@
 -- XCHG of a register with memory.
-use Rattle.std.specs.Prelude.{ℕ, Bool, true, false, List, [], ◌∷◌, ◌+◌, ◌/◌, ◌%◌, ◌^◌, ◌==◌, ◌&&◌, nat_le, bit_or, if◌then◌else◌, None}
+use Rattle.std.specs.Prelude.{ℕ, Bool, true, false, List, [], ◌∷◌, ◌+◌, ◌/◌, ◌%◌, ◌^◌, ◌==◌, ◌&&◌, nat_le, bit_or, if◌then◌else◌}
 use Rattle.m386_base.specs.declared.ask.Role.TheVariants.{Operand}
-use Rattle.m386_base.specs.declared.fault.Fault.{Fault}
 use Rattle.m386_base.specs.declared.split.Piece.{Piece}
 use Rattle.m386_base.specs.Split.{gather_of}
 use Rattle.m386_base.specs.Phrase.{Phrase, Done, Faults, ◌>>=◌, one}
 use Rattle.m386_state.specs.declared.proc.Proc.{Proc}
 use Rattle.m386_step.specs.declared.fetch.Reader.{Reader}
-use Rattle.m386_step.specs.Access.{general_protection_of, memory_pieces, read_ask, write_ask}
+use Rattle.m386_step.specs.Access.{memory_pieces, read_ask, write_ask}
 use Rattle.m386_step.specs.After.{moved, with_register, register_of}
+use Rattle.m386_step.specs.Faults.{undefined_opcode_of, general_protection_of}
 use Rattle.m386_step.specs.Fetch.{byte_phrase, number_phrase}
-
--- #UD.
--- Source: Intel 80386 PRM 9.8.6
-abbrev pub undefined_opcode_of : Fault
-undefined_opcode_of = record { vector = 6; code = None }
 
 -- groups read in one locked group, of which the first cycle isn't joined
 unfoldable pub locked_reads : Bool → ℕ → List Piece → Phrase ℕ

@@ -6,8 +6,8 @@ use Rattle.m386_state.specs.declared.proc.Proc.{Proc}
 use Rattle.m386_state.specs.declared.proc.Mode.TheVariants.{Halted}
 use Rattle.m386_state.specs.Start.{cpl_of}
 use Rattle.m386_step.specs.declared.fetch.Reader.{Reader}
-use Rattle.m386_step.specs.Access.{general_protection_of}
 use Rattle.m386_step.specs.After.{moved}
+use Rattle.m386_step.specs.Faults.{general_protection_of}
 
 -- halted behind the instruction, or the fault of a privilege level other than 0
 abbrev pub halted : Proc → Reader → Result Proc Fault

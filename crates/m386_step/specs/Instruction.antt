@@ -4,7 +4,8 @@ use Rattle.m386_state.specs.declared.proc.Proc.{Proc}
 use Rattle.m386_step.specs.declared.fetch.Reader.{Reader}
 use Rattle.m386_step.specs.declared.operation.Operation.{Operation}
 use Rattle.m386_step.specs.declared.operation.Operation.TheVariants.{Exchange, Load, Store, Move, Near, Short, Halt, Undefined}
-use Rattle.m386_step.specs.Exchange.{exchange_phrase, undefined_opcode_of}
+use Rattle.m386_step.specs.Exchange.{exchange_phrase}
+use Rattle.m386_step.specs.Faults.{undefined_opcode_of}
 use Rattle.m386_step.specs.Fetch.{byte_phrase, first_reader}
 use Rattle.m386_step.specs.Halt.{halt_phrase}
 use Rattle.m386_step.specs.Jump.{near_phrase, short_phrase}
@@ -25,5 +26,5 @@ operation_phrase Undefined p r = Faults undefined_opcode_of
 -- the instruction at EIP
 unfoldable pub instruction_phrase : Proc → Phrase Proc
 instruction_phrase p = do
-  b ← byte_phrase (first_reader p.eip)
+  b ← byte_phrase (first_reader p)
   operation_phrase (operation_named b.0) p b.1

@@ -1,6 +1,7 @@
 pub mod Access
 pub mod After
 pub mod Exchange
+pub mod Faults
 pub mod Fetch
 pub mod Halt
 pub mod Instruction

@@ -1,25 +1,16 @@
 //! Operands in memory. As long as nothing loads a segment, segments are flat and an offset is the linear address.
 ghost use Rattle.std.specs.Prelude.{◌≡◌, false, ◌+◌, ◌^◌, ◌⊎◌, nat_le};
 ghost use Rattle.m386_base.specs.Phrase.{Performs, it};
-ghost use Rattle.m386_step.specs.Access.{general_protection_of, read_phrase, write_phrase, reads, writes, memory_pieces};
+ghost use Rattle.m386_step.specs.Access.{read_phrase, write_phrase, reads, writes, memory_pieces};
 
+use crate::faults::general_protection;
 use m386_base::ask::{Ask, Role, Space};
 use m386_base::bus::{Bus, cycle_or_fault};
-use m386_base::fault::{Break, Fault};
+use m386_base::fault::Break;
 use m386_base::split::{gather, split, spread};
 
 /// One more than the last offset.
 const OFFSETS: u64 = 0x1_0000_0000;
-
-/// #GP(0) (PRM 9.8.13).
-pub fn general_protection() -> Fault
-    ensures { result ≡ general_protection_of }
-{
-    Fault {
-        vector: 13,
-        code: Some(0),
-    }
-}
 
 /// Whether no byte of an operand passes FFFFFFFFh.
 pub fn is_inside(offset: u32, len: u8) -> bool

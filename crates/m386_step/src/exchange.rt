@@ -3,25 +3,16 @@ ghost use Rattle.std.specs.Prelude.{◌≡◌, false, true, ◌<◌, ◌≤◌, 
 ghost use Rattle.m386_base.specs.Phrase.{Performs, it};
 ghost use Rattle.m386_base.specs.Split.{AreGroups};
 ghost use Rattle.m386_base.specs.declared.ask.Space.TheVariants as spaces;
-ghost use Rattle.m386_step.specs.Exchange.{locked_reads, locked_writes, swap_phrase, swap_register_phrase, exchange_phrase, undefined_opcode_of};
+ghost use Rattle.m386_step.specs.Exchange.{locked_reads, locked_writes, swap_phrase, swap_register_phrase, exchange_phrase};
 
-use crate::access::{general_protection, is_inside};
+use crate::access::is_inside;
+use crate::faults::{general_protection, undefined_opcode};
 use crate::fetch::{Reader, next_byte, next_number};
 use m386_base::ask::{Ask, Role, Space};
 use m386_base::bus::{Bus, cycle_or_fault};
-use m386_base::fault::{Break, Fault};
+use m386_base::fault::Break;
 use m386_base::split::{Piece, gather, split, spread};
 use m386_state::proc::Proc;
-
-/// #UD (PRM 9.8.6).
-pub fn undefined_opcode() -> Fault
-    ensures { result ≡ undefined_opcode_of }
-{
-    Fault {
-        vector: 6,
-        code: None,
-    }
-}
 
 /// The bytes of an access, read group by group. The first cycle begins a locked group, which stays open.
 #[tactic(auto, using(m386_base::proofs::Phrases::calls, m386_base::proofs::Groups::group_at, crate::proofs::Locked::read_steps))]

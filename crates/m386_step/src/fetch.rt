@@ -1,15 +1,22 @@
 //! The bytes of an instruction. No group is fetched twice in a step.
 ghost use Rattle.std.specs.Prelude.{◌≡◌, false, ◌+◌, ◌*◌, ◌%◌, ◌^◌};
 ghost use Rattle.m386_base.specs.Phrase.{Performs};
-ghost use Rattle.m386_step.specs.Fetch.{byte_phrase, byte_in, number_phrase, first_reader};
+ghost use Rattle.m386_step.specs.Fetch.{byte_phrase, group_phrase, byte_in, number_phrase, first_reader};
 
+use crate::faults::general_protection;
 use m386_base::ask::{Ask, Role, Space};
 use m386_base::bus::{Bus, cycle_or_fault};
 use m386_base::fault::Break;
+use m386_desc::offsets::limit;
+use m386_state::proc::Proc;
 
 /// Where the next byte of the instruction stands, and the group that was fetched last in this step.
 #[derive(Clone, Copy, Debug, PartialEq, Eq)]
 pub struct Reader {
+    /// The linear address of the first byte of CS.
+    pub base: u32,
+    /// The last offset in CS.
+    pub limit: u32,
     /// The offset in CS of the next byte.
     pub at: u32,
     /// Whether a group was fetched in this step.
@@ -20,12 +27,15 @@ pub struct Reader {
     pub value: u32,
 }
 
-/// A reader that begins at an instruction.
-pub fn reader_at(eip: u32) -> Reader
-    ensures { result ≡ first_reader eip }
+/// A reader that begins at the instruction at EIP.
+pub fn reader_at(p: &Proc) -> Reader
+    ensures { result ≡ first_reader p.now }
 {
+    let code = p.segs[1].desc;
     Reader {
-        at: eip,
+        base: code.base,
+        limit: limit(&code),
+        at: p.eip,
         fetched: false,
         group: 0,
         value: 0,
@@ -39,15 +49,16 @@ fn byte_at(value: u32, at: u32) -> u8
     (value >> (8 * (at % 4)) & 0xff) as u8
 }
 
-/// The next byte. Its group is fetched where it isn't the one that was fetched last. Offsets go on at 0 past FFFFFFFFh.
-#[tactic(auto, using(m386_base::proofs::Phrases::calls), unfolding(crate::specs::Fetch::byte_phrase))]
-pub fn next_byte<B: Bus>(reader: &mut Reader, bus: &mut B) -> Result<u8, Break>
+/// The next byte, inside the limit. Its group is fetched where it isn't the one that was fetched last. Offsets go on at 0
+/// past FFFFFFFFh.
+#[tactic(auto, using(m386_base::proofs::Phrases::calls), unfolding(crate::specs::Fetch::group_phrase))]
+fn byte_of_group<B: Bus>(reader: &mut Reader, bus: &mut B) -> Result<u8, Break>
     requires free { (B.view bus.old).kept ≡ false }
-    ensures cycles { Performs (byte_phrase reader.old) (B.view bus.old) (B.view bus.new) (λ byte. (byte, reader.new)) result }
+    ensures cycles { Performs (group_phrase reader.old) (B.view bus.old) (B.view bus.new) (λ byte. (byte, reader.new)) result }
     ensures free { (B.view bus.new).kept ≡ false }
 {
-    let at = reader.at;
-    let group = at - at % 4;
+    let linear = reader.base.wrapping_add(reader.at);
+    let group = linear - linear % 4;
     if !reader.fetched || reader.group != group {
         let value = cycle_or_fault(
             bus,
@@ -64,15 +75,28 @@ pub fn next_byte<B: Bus>(reader: &mut Reader, bus: &mut B) -> Result<u8, Break>
             false,
         )?;
         *reader = Reader {
-            at,
             fetched: true,
             group,
             value,
+            ..*reader
         };
     }
-    let byte = byte_at(reader.value, at);
-    reader.at = at.wrapping_add(1);
+    let byte = byte_at(reader.value, linear);
+    reader.at = reader.at.wrapping_add(1);
     Ok(byte)
+}
+
+/// The next byte. #GP(0), with no cycle, exactly where its offset is past the limit of CS.
+#[tactic(auto, using(m386_base::proofs::Phrases::calls), unfolding(crate::specs::Fetch::byte_phrase))]
+pub fn next_byte<B: Bus>(reader: &mut Reader, bus: &mut B) -> Result<u8, Break>
+    requires free { (B.view bus.old).kept ≡ false }
+    ensures cycles { Performs (byte_phrase reader.old) (B.view bus.old) (B.view bus.new) (λ byte. (byte, reader.new)) result }
+    ensures free { (B.view bus.new).kept ≡ false }
+{
+    if reader.at > reader.limit {
+        return Err(Break::Fault(general_protection()));
+    }
+    byte_of_group(reader, bus)
 }
 
 /// The next four bytes as a little-endian number.

@@ -2,7 +2,7 @@
 ghost use Rattle.std.specs.Prelude.{◌≡◌};
 ghost use Rattle.m386_step.specs.Halt.{halted};
 
-use crate::access::general_protection;
+use crate::faults::general_protection;
 use crate::fetch::Reader;
 use m386_base::fault::Fault;
 use m386_state::proc::{Mode, Proc};

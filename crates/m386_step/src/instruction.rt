@@ -4,7 +4,8 @@ ghost use Rattle.m386_base.specs.Phrase.{Performs, it};
 ghost use Rattle.m386_step.specs.Opcode.{HasRegister};
 ghost use Rattle.m386_step.specs.Instruction.{operation_phrase, instruction_phrase};
 
-use crate::exchange::{exchange, undefined_opcode};
+use crate::exchange::exchange;
+use crate::faults::undefined_opcode;
 use crate::fetch::{Reader, next_byte, reader_at};
 use crate::halt::halt;
 use crate::jump::{near, short};
@@ -49,7 +50,7 @@ pub fn instruction<B: Bus>(p: &Proc, bus: &mut B) -> Result<Proc, Break>
     ensures cycles { Performs (instruction_phrase p.now) (B.view bus.old) (B.view bus.new) it result }
     ensures free { (B.view bus.new).kept ≡ false }
 {
-    let mut reader = reader_at(p.eip);
+    let mut reader = reader_at(p);
     let opcode = next_byte(&mut reader, bus)?;
     perform(p, operation_of(opcode), reader, bus)
 }

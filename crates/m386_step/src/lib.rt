@@ -5,6 +5,7 @@ pub mod access;
 pub mod answer;
 pub mod begin;
 pub mod exchange;
+pub mod faults;
 pub mod fetch;
 pub mod halt;
 pub mod instruction;
