@@ -89,7 +89,7 @@ none_before front rest none op spelling behind parts s =
     none op spelling (behind ++ rest) (ap (λ x. x ++ rest) parts ∙ append_assoc spelling behind rest) s
 
 -- what stands at the front of bytes that want more wants more
-wanting_before : (front rest : List ℕ) → WantsMore (front ++ rest) → WantsMore front
+pub wanting_before : (front rest : List ℕ) → WantsMore (front ++ rest) → WantsMore front
 wanting_before front rest wants = (none_before front rest wants.0, begins_before front rest wants.1)
 
 -- what stands before the end of a spelling has none

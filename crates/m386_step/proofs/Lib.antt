@@ -1,7 +1,10 @@
 pub mod Beginnings
+pub mod Decoding
+pub mod Fetching
 pub mod Few
 pub mod Locked
 pub mod Pieces
 pub mod Short
+pub mod Sources
 pub mod StepLists
 pub mod Told

@@ -1,5 +1,5 @@
 -- No step has more than 192 cycles, and none ends in a fault.
-use Rattle.std.proofs.Common.{◌≡◌, ℕ, ◌+◌, ◌-◌, ◌/◌, ◌%◌, ◌≤◌, ◌^◌, List, [], ◌∷◌, length, refl, arith, true, false, cond, Bool, nat_le, nat_lt, ◌&&◌, ◌==◌, Result, Ok, Err}
+use Rattle.std.proofs.Common.{◌≡◌, ℕ, zero, suc, ◌+◌, ◌++◌, ◌-◌, ◌%◌, ◌≤◌, ◌^◌, List, [], ◌∷◌, length, refl, arith, true, false, cond, Bool, nat_le, nat_lt, ◌&&◌, ◌==◌, Result, Ok, Err}
 use Rattle.m386_base.specs.declared.ask.Role.{Role}
 use Rattle.m386_base.specs.declared.ask.Role.TheVariants.{Operand}
 use Rattle.m386_base.specs.declared.ask.Space.TheVariants.{Memory}
@@ -9,20 +9,24 @@ use Rattle.m386_base.specs.Laws.{AtMost, Sound}
 use Rattle.m386_base.specs.Phrase.{Phrase, Done, ◌>>=◌, one}
 use Rattle.m386_base.specs.Split.{pieces, pieces_from, wrapped}
 use Rattle.m386_base.proofs.Bounds.{at_most_then, at_most_either, at_most_within, at_most_if, sound_either}
+use Rattle.m386_decode.specs.declared.decoded.Decoded.{Decoded}
+use Rattle.m386_opmap.specs.declared.outcome.Reading.{Reading}
+use Rattle.m386_opmap.specs.declared.outcome.Reading.TheVariants.{Spelled, More, Refused}
+use Rattle.m386_opmap.specs.Readings.{reading_of}
 use Rattle.m386_state.specs.declared.proc.Mode.{Mode}
 use Rattle.m386_state.specs.declared.proc.Mode.TheVariants.{Running, Halted, Shutdown}
 use Rattle.m386_state.specs.declared.proc.Proc.{Proc}
 use Rattle.m386_step.specs.declared.fetch.Reader.{Reader}
 use Rattle.m386_step.specs.declared.operation.Operation.{Operation}
-use Rattle.m386_step.specs.declared.operation.Operation.TheVariants.{Exchange, Load, Store, Move, Near, Short, Halt, Undefined}
+use Rattle.m386_step.specs.declared.operation.Operation.TheVariants.{Exchange, Load, Store, Move, Jump, Halt, Unbuilt}
 use Rattle.m386_step.specs.Access.{memory_pieces, reads, writes, read_phrase, write_phrase}
-use Rattle.m386_step.specs.Exchange.{locked_reads, locked_writes, swap_phrase, swap_register_phrase, exchange_phrase}
-use Rattle.m386_step.specs.Fetch.{byte_phrase, group_phrase, linear, number_phrase, taken, fetch_ask}
+use Rattle.m386_step.specs.Code.{read_on, further_phrase, decode_phrase}
+use Rattle.m386_step.specs.Exchange.{locked_reads, locked_writes, swap_phrase, exchange_phrase}
+use Rattle.m386_step.specs.Fetch.{byte_phrase, group_phrase, linear, first_reader, taken, fetch_ask}
 use Rattle.m386_step.specs.Halt.{halted, silent, halt_phrase}
 use Rattle.m386_step.specs.Instruction.{operation_phrase, instruction_phrase}
-use Rattle.m386_step.specs.Jump.{near_phrase, short_phrase}
-use Rattle.m386_step.specs.Moves.{move_phrase, load_phrase, store_phrase}
-use Rattle.m386_step.specs.Opcode.{operation_named}
+use Rattle.m386_step.specs.Moves.{load_phrase, store_phrase}
+use Rattle.m386_step.specs.Operation.{operation_of}
 use Rattle.m386_step.specs.Step.{is_due, running_phrase, turn_phrase, step_phrase}
 
 short_group : (r : Reader) → AtMost 1 (group_phrase r)
@@ -35,10 +39,21 @@ short_byte : (r : Reader) → AtMost 1 (byte_phrase r)
 unfolding byte_phrase
 short_byte r = at_most_if 1 (nat_lt r.limit r.at) _ _ tt (short_group r)
 
-short_number : (r : Reader) → AtMost 4 (number_phrase r)
-unfolding number_phrase
-short_number r =
-    at_most_then 1 3 _ _ (short_byte _) (λ a. at_most_then 1 2 _ _ (short_byte _) (λ b. at_most_then 1 1 _ _ (short_byte _) (λ c. at_most_then 1 0 _ _ (short_byte _) (λ d. tt))))
+short_read_on : (n : ℕ) (x : Reading) (more : Phrase Decoded) → AtMost n more → AtMost n (read_on x more)
+short_read_on n (Spelled op len) more h = tt
+short_read_on n (Refused at) more h = tt
+short_read_on n More more h = h
+
+short_further : (n : ℕ) (bytes : List ℕ) (r : Reader) → AtMost n (further_phrase n bytes r)
+unfolding further_phrase
+short_further zero bytes r = tt
+short_further (suc n) bytes r =
+    let e : suc n ≡ 1 + n = omega arith in
+    rw e (at_most_then 1 n _ _ (short_byte r) (λ b. short_read_on n (reading_of (bytes ++ b.0 ∷ [])) _ (short_further n (bytes ++ b.0 ∷ []) b.1)))
+
+short_decode : (r : Reader) → AtMost 15 (decode_phrase r)
+unfolding decode_phrase
+short_decode r = short_further 15 [] r
 
 few_pieces : (offset len : ℕ) → length (memory_pieces offset len) ≤ 2
 unfolding pieces
@@ -86,56 +101,40 @@ short_swap offset value =
     (at_most_then 2 2 _ _ (at_most_within _ 2 (locked_reads false 0 groups) (few_pieces offset 4) (short_locked_reads groups false 0)) (λ old. at_most_then 2 0 _ _ (at_most_within _ 2 (locked_writes value groups) (few_pieces offset 4) (short_locked_writes groups value)) (λ u. tt)))
     tt
 
-short_exchange : (p : Proc) (r : Reader) → AtMost 9 (exchange_phrase p r)
-unfolding exchange_phrase swap_register_phrase
-short_exchange p r =
-    at_most_then 1 8 _ _ (short_byte r) (λ m. at_most_if 8 ((m.0 / 64 == 0) && (m.0 % 8 == 5)) _ _
-    (at_most_then 4 4 _ _ (short_number m.1) (λ n. at_most_then 4 0 _ _ (short_swap n.0 _) (λ old. tt)))
-    tt)
+short_exchange : (p : Proc) (next register offset : ℕ) → AtMost 8 (exchange_phrase p next register offset)
+unfolding exchange_phrase
+short_exchange p next register offset = at_most_then 4 4 _ _ (short_swap offset _) (λ old. tt)
 
-short_move : (p : Proc) (register : ℕ) (r : Reader) → AtMost 9 (move_phrase p register r)
-unfolding move_phrase
-short_move p register r = at_most_then 4 5 _ _ (short_number r) (λ n. tt)
-
-short_load : (p : Proc) (r : Reader) → AtMost 9 (load_phrase p r)
+short_load : (p : Proc) (next register offset : ℕ) → AtMost 8 (load_phrase p next register offset)
 unfolding load_phrase
-short_load p r = at_most_then 4 5 _ _ (short_number r) (λ n. at_most_then 2 3 _ _ (short_read Operand n.0 4) (λ v. tt))
+short_load p next register offset = at_most_then 2 6 _ _ (short_read Operand offset 4) (λ v. tt)
 
-short_store : (p : Proc) (r : Reader) → AtMost 9 (store_phrase p r)
+short_store : (p : Proc) (next register offset : ℕ) → AtMost 8 (store_phrase p next register offset)
 unfolding store_phrase
-short_store p r = at_most_then 4 5 _ _ (short_number r) (λ n. at_most_then 2 3 _ _ (short_write Operand n.0 4 _) (λ v. tt))
-
-short_near : (p : Proc) (r : Reader) → AtMost 9 (near_phrase p r)
-unfolding near_phrase
-short_near p r = at_most_then 4 5 _ _ (short_number r) (λ n. tt)
-
-short_short : (p : Proc) (r : Reader) → AtMost 9 (short_phrase p r)
-unfolding short_phrase
-short_short p r = at_most_then 1 8 _ _ (short_byte r) (λ b. tt)
+short_store p next register offset = at_most_then 2 6 _ _ (short_write Operand offset 4 _) (λ v. tt)
 
 short_silent : {A : Type 0} (n : ℕ) (x : Result A Fault) → AtMost n (silent x)
 short_silent n (Ok a) = tt
 short_silent n (Err f) = tt
 
 -- each operation, one line each
-short_operation : (o : Operation) (p : Proc) (r : Reader) → AtMost 9 (operation_phrase o p r)
+short_operation : (o : Operation) (p : Proc) (next : ℕ) → AtMost 8 (operation_phrase o p next)
 unfolding halt_phrase
-short_operation Exchange p r = short_exchange p r
-short_operation Load p r = short_load p r
-short_operation Store p r = short_store p r
-short_operation (Move register) p r = short_move p register r
-short_operation Near p r = short_near p r
-short_operation Short p r = short_short p r
-short_operation Halt p r = short_silent 9 (halted p r)
-short_operation Undefined p r = tt
+short_operation (Exchange register offset) p next = short_exchange p next register offset
+short_operation (Load register offset) p next = short_load p next register offset
+short_operation (Store register offset) p next = short_store p next register offset
+short_operation (Move register number) p next = tt
+short_operation (Jump distance) p next = tt
+short_operation Halt p next = short_silent 8 (halted p next)
+short_operation Unbuilt p next = tt
 
-short_instruction : (p : Proc) → AtMost 10 (instruction_phrase p)
+short_instruction : (p : Proc) → AtMost 23 (instruction_phrase p)
 unfolding instruction_phrase
-short_instruction p = at_most_then 1 9 _ _ (short_byte _) (λ b. short_operation (operation_named b.0) p b.1)
+short_instruction p = at_most_then 15 8 _ _ (short_decode (first_reader p)) (λ d. short_operation (operation_of d.op) p _)
 
 short_running : (p : Proc) → AtMost 192 (running_phrase p)
 unfolding running_phrase
-short_running p = at_most_either 10 182 _ _ _ (short_instruction p) (λ a. tt) (λ f. tt)
+short_running p = at_most_either 23 169 _ _ _ (short_instruction p) (λ a. tt) (λ f. tt)
 
 short_turn : (m : Mode) (p : Proc) → AtMost 192 (turn_phrase m p)
 short_turn Running p = short_running p

@@ -1,15 +1,13 @@
 -- XCHG of a register with memory.
-use Rattle.std.specs.Prelude.{ℕ, Bool, true, false, List, [], ◌∷◌, ◌+◌, ◌/◌, ◌%◌, ◌^◌, ◌==◌, ◌&&◌, nat_le, bit_or, if◌then◌else◌}
+use Rattle.std.specs.Prelude.{ℕ, Bool, true, false, List, [], ◌∷◌, ◌+◌, ◌^◌, nat_le, bit_or, if◌then◌else◌}
 use Rattle.m386_base.specs.declared.ask.Role.TheVariants.{Operand}
 use Rattle.m386_base.specs.declared.split.Piece.{Piece}
 use Rattle.m386_base.specs.Split.{gather_of}
 use Rattle.m386_base.specs.Phrase.{Phrase, Done, Faults, ◌>>=◌, one}
 use Rattle.m386_state.specs.declared.proc.Proc.{Proc}
-use Rattle.m386_step.specs.declared.fetch.Reader.{Reader}
 use Rattle.m386_step.specs.Access.{memory_pieces, read_ask, write_ask}
 use Rattle.m386_step.specs.After.{moved, with_register, register_of}
-use Rattle.m386_step.specs.Faults.{undefined_opcode_of, general_protection_of}
-use Rattle.m386_step.specs.Fetch.{byte_phrase, number_phrase}
+use Rattle.m386_step.specs.Faults.{general_protection_of}
 
 -- groups read in one locked group, of which the first cycle isn't joined
 unfoldable pub locked_reads : Bool → ℕ → List Piece → Phrase ℕ
@@ -31,16 +29,9 @@ unfoldable pub swap_phrase : ℕ → ℕ → Phrase ℕ
 swap_phrase offset value = if nat_le (offset + 4) (2 ^ 32) then (locked_reads false 0 (memory_pieces offset 4) >>= (λ old. locked_writes value (memory_pieces offset 4) >>= (λ _. Done old)))
     else Faults general_protection_of
 
--- XCHG behind its ModRM byte
-unfoldable pub swap_register_phrase : Proc → ℕ → Reader → Phrase Proc
-swap_register_phrase p register r = do
-  n ← number_phrase r
-  old ← swap_phrase n.0 (register_of p register)
-  Done (with_register (moved p n.1) register old)
-
--- XCHG of a register with a doubleword at a 32-bit address.
+-- XCHG of a register with a doubleword in memory.
 -- Source: Intel 80386 PRM 17.2, XCHG; 11.2.1
-unfoldable pub exchange_phrase : Proc → Reader → Phrase Proc
-exchange_phrase p r = do
-  m ← byte_phrase r
-  if (m.0 / 64 == 0) && (m.0 % 8 == 5) then swap_register_phrase p (m.0 / 8 % 8) m.1 else Faults undefined_opcode_of
+unfoldable pub exchange_phrase : Proc → ℕ → ℕ → ℕ → Phrase Proc
+exchange_phrase p next register offset = do
+  old ← swap_phrase offset (register_of p register)
+  Done (with_register (moved p next) register old)

@@ -1,7 +1,5 @@
 -- The bytes of an instruction.
 use Rattle.std.specs.Prelude.{ℕ, ◌+◌, ◌-◌, ◌*◌, ◌/◌, ◌%◌, ◌^◌, true, false, ◌&&◌, ◌==◌, nat_lt, if◌then◌else◌}
-use Rattle.std.specs.Int.{from_le_bytes, w32}
-use Rattle.std.specs.Prelude.{[], ◌∷◌}
 use Rattle.m386_base.specs.declared.ask.Ask.{Ask}
 use Rattle.m386_base.specs.declared.ask.Space.TheVariants.{Memory}
 use Rattle.m386_base.specs.declared.ask.Role.TheVariants.{Fetch}
@@ -46,12 +44,3 @@ group_phrase r =
 -- Source: Intel 80386 PRM 6.3.1
 unfoldable pub byte_phrase : Reader → Phrase (ℕ × Reader)
 byte_phrase r = if nat_lt r.limit r.at then Faults general_protection_of else group_phrase r
-
--- four bytes as a number, the lowest first
-unfoldable pub number_phrase : Reader → Phrase (ℕ × Reader)
-number_phrase r = do
-  b0 ← byte_phrase r
-  b1 ← byte_phrase b0.1
-  b2 ← byte_phrase b1.1
-  b3 ← byte_phrase b2.1
-  Done (from_le_bytes w32 (b0.0 ∷ b1.0 ∷ b2.0 ∷ b3.0 ∷ []), b3.1)

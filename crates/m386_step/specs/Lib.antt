@@ -1,14 +1,16 @@
 pub mod Access
 pub mod After
+pub mod Code
 pub mod Exchange
 pub mod Faults
 pub mod Fetch
+pub mod Fetched
 pub mod Halt
 pub mod Instruction
 pub mod Judged
 pub mod Jump
 pub mod Moves
-pub mod Opcode
+pub mod Operation
 pub mod Probes
 pub mod Run
 pub mod Step

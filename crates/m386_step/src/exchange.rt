@@ -3,11 +3,11 @@ ghost use Rattle.std.specs.Prelude.{◌≡◌, false, true, ◌<◌, ◌≤◌, 
 ghost use Rattle.m386_base.specs.Phrase.{Performs, it};
 ghost use Rattle.m386_base.specs.Split.{AreGroups};
 ghost use Rattle.m386_base.specs.declared.ask.Space.TheVariants as spaces;
-ghost use Rattle.m386_step.specs.Exchange.{locked_reads, locked_writes, swap_phrase, swap_register_phrase, exchange_phrase};
+ghost use Rattle.m386_step.specs.Exchange.{locked_reads, locked_writes, swap_phrase, exchange_phrase};
 
 use crate::access::is_inside;
-use crate::faults::{general_protection, undefined_opcode};
-use crate::fetch::{Reader, next_byte, next_number};
+use crate::after::{moved, register_of, with_register};
+use crate::faults::general_protection;
 use m386_base::ask::{Ask, Role, Space};
 use m386_base::bus::{Bus, cycle_or_fault};
 use m386_base::fault::Break;
@@ -86,34 +86,19 @@ fn swap<B: Bus>(bus: &mut B, offset: u32, value: u32) -> Result<u32, Break>
     Ok(old)
 }
 
-/// The rest of XCHG behind its ModRM byte.
-#[tactic(auto, using(m386_base::proofs::Phrases::calls), unfolding(crate::specs::Exchange::swap_register_phrase))]
-fn swap_register<B: Bus>(p: &Proc, register: u8, reader: Reader, bus: &mut B) -> Result<Proc, Break>
-    requires free { (B.view bus.old).kept ≡ false }
-    requires register { register < 8 }
-    ensures cycles { Performs (swap_register_phrase p.now register reader) (B.view bus.old) (B.view bus.new) it result }
-    ensures free { (B.view bus.new).kept ≡ false }
-{
-    let mut reader = reader;
-    let offset = next_number(&mut reader, bus)?;
-    let old = swap(bus, offset, p.regs[register as usize])?;
-    let mut after = *p;
-    after.eip = reader.at;
-    after.regs[register as usize] = old;
-    Ok(after)
-}
-
-/// XCHG Ev, Gv (87) with a memory operand at a 32-bit address: ModRM with mod 0 and rm 5. Any other ModRM byte is #UD.
+/// XCHG of a register with a doubleword in memory. `next` is EIP behind the instruction.
 #[tactic(auto, using(m386_base::proofs::Phrases::calls), unfolding(crate::specs::Exchange::exchange_phrase))]
-pub fn exchange<B: Bus>(p: &Proc, reader: Reader, bus: &mut B) -> Result<Proc, Break>
+pub fn exchange<B: Bus>(
+    p: &Proc,
+    next: u32,
+    register: u8,
+    offset: u32,
+    bus: &mut B,
+) -> Result<Proc, Break>
     requires free { (B.view bus.old).kept ≡ false }
-    ensures cycles { Performs (exchange_phrase p.now reader) (B.view bus.old) (B.view bus.new) it result }
+    ensures cycles { Performs (exchange_phrase p.now next register offset) (B.view bus.old) (B.view bus.new) it result }
     ensures free { (B.view bus.new).kept ≡ false }
 {
-    let mut reader = reader;
-    let modrm = next_byte(&mut reader, bus)?;
-    if modrm / 64 != 0 || modrm % 8 != 5 {
-        return Err(Break::Fault(undefined_opcode()));
-    }
-    swap_register(p, modrm / 8 % 8, reader, bus)
+    let old = swap(bus, offset, register_of(p, register))?;
+    Ok(with_register(&moved(p, next), register, old))
 }

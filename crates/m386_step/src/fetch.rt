@@ -1,7 +1,7 @@
 //! The bytes of an instruction. No group is fetched twice in a step.
 ghost use Rattle.std.specs.Prelude.{◌≡◌, false, ◌+◌, ◌*◌, ◌%◌, ◌^◌};
 ghost use Rattle.m386_base.specs.Phrase.{Performs};
-ghost use Rattle.m386_step.specs.Fetch.{byte_phrase, group_phrase, byte_in, number_phrase, first_reader};
+ghost use Rattle.m386_step.specs.Fetch.{byte_phrase, group_phrase, byte_in, first_reader};
 
 use crate::faults::general_protection;
 use m386_base::ask::{Ask, Role, Space};
@@ -97,18 +97,4 @@ pub fn next_byte<B: Bus>(reader: &mut Reader, bus: &mut B) -> Result<u8, Break>
         return Err(Break::Fault(general_protection()));
     }
     byte_of_group(reader, bus)
-}
-
-/// The next four bytes as a little-endian number.
-#[tactic(auto, using(m386_base::proofs::Phrases::calls), unfolding(crate::specs::Fetch::number_phrase))]
-pub fn next_number<B: Bus>(reader: &mut Reader, bus: &mut B) -> Result<u32, Break>
-    requires free { (B.view bus.old).kept ≡ false }
-    ensures cycles { Performs (number_phrase reader.old) (B.view bus.old) (B.view bus.new) (λ n. (n, reader.new)) result }
-    ensures free { (B.view bus.new).kept ≡ false }
-{
-    let byte_0 = next_byte(reader, bus)?;
-    let byte_1 = next_byte(reader, bus)?;
-    let byte_2 = next_byte(reader, bus)?;
-    let byte_3 = next_byte(reader, bus)?;
-    Ok(u32::from_le_bytes([byte_0, byte_1, byte_2, byte_3]))
 }

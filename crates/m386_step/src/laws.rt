@@ -1,11 +1,16 @@
 //! Laws of the step's definition.
-ghost use Rattle.std.specs.Prelude.{◌≡◌, ◌↔◌, ℕ, ◌≤◌, [], List, length};
+ghost use Rattle.std.specs.Prelude.{◌≡◌, ◌↔◌, ◌⊎◌, ℕ, ◌≤◌, [], List, length, Ok, Err};
 ghost use Rattle.m386_base.specs.declared.ask.Ask.{Ask as AskRecord};
+ghost use Rattle.m386_base.specs.declared.fault.Break.TheVariants as breaks;
 ghost use Rattle.m386_base.specs.declared.fault.Fault.{Fault as FaultRecord};
 ghost use Rattle.m386_base.specs.Laws.{AtMost};
-ghost use Rattle.m386_base.specs.Phrase.{Whole, Faulted, Wants};
+ghost use Rattle.m386_base.specs.Phrase.{Whole, Faulted, Wants, follow};
 ghost use Rattle.m386_base.specs.Replay.{Found, Lacks, replay};
 ghost use Rattle.m386_state.specs.declared.proc.Proc.{Proc as ProcRecord};
+ghost use Rattle.m386_decode.specs.declared.decoded.Decoded.{Decoded as DecodedRecord};
+ghost use Rattle.m386_step.specs.declared.fetch.Reader.{Reader as ReaderRecord};
+ghost use Rattle.m386_step.specs.Code.{decode_phrase};
+ghost use Rattle.m386_step.specs.Fetched.{DecodesTo, WantsByte};
 ghost use Rattle.m386_step.specs.Judged.{AreJudged};
 ghost use Rattle.m386_step.specs.Step.{step_phrase, Follow};
 
@@ -27,4 +32,16 @@ pub fn values_are_judged_as_cycles()
         → (replay (step_phrase p) values ≡ Found after used) ↔ AreJudged p values used (Whole after []) }
     ensures wants { (p : ProcRecord) (wanted : AskRecord) (values : List ℕ)
         → (replay (step_phrase p) values ≡ Lacks wanted) ↔ AreJudged p values (length values) (Wants wanted) }
+{}
+
+/// What a step decodes is what the decoder answers for the bytes that were fetched: the operation exactly where they spell
+/// it; a fault exactly where it is the decoder's own behind them, or that of the next byte which they want; and a further
+/// cycle exactly where the next byte wants it.
+pub fn decoding_is_the_decoders()
+    ensures done { (r : ReaderRecord) (d : DecodedRecord) (ts rest : List AskRecord)
+        → (follow (decode_phrase r) ts ≡ Whole d rest) ↔ DecodesTo r ts rest (Ok d) }
+    ensures faults { (r : ReaderRecord) (fault : FaultRecord) (ts rest : List AskRecord)
+        → (follow (decode_phrase r) ts ≡ Faulted fault rest) ↔ (DecodesTo r ts rest (Err (breaks.Fault fault)) ⊎ WantsByte r ts (Faulted fault rest)) }
+    ensures wants { (r : ReaderRecord) (wanted : AskRecord) (ts : List AskRecord)
+        → (follow (decode_phrase r) ts ≡ Wants wanted) ↔ WantsByte r ts (Wants wanted) }
 {}

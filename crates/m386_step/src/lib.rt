@@ -2,8 +2,10 @@
 #![tactic(auto)]
 
 pub mod access;
+pub mod after;
 pub mod answer;
 pub mod begin;
+pub mod code;
 pub mod exchange;
 pub mod faults;
 pub mod fetch;
