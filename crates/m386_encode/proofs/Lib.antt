@@ -16,3 +16,6 @@ pub mod Segments
 pub mod Taken
 pub mod Values
 pub mod Whole
+pub mod InFull
+pub mod Fuller
+pub mod Widened

@@ -2,3 +2,4 @@ pub mod Candidates
 pub mod Order
 pub mod RoundTrip
 pub mod Shortest
+pub mod Wide
