@@ -19,3 +19,4 @@ pub mod Whole
 pub mod InFull
 pub mod Fuller
 pub mod Widened
+pub mod WideCandidate

@@ -43,11 +43,11 @@ unfolding lowest
 lowest_size zero v = refl
 lowest_size (suc n) v = omega (arith, lowest_size n (v / 256))
 
-base_small : (b : Option ℕ) → base b < 8
+pub base_small : (b : Option ℕ) → base b < 8
 base_small None = omega arith
 base_small (Some n) = omega arith
 
-mode_small : (b : Option ℕ) (mode : ℕ) → mode_of b mode < 3
+pub mode_small : (b : Option ℕ) (mode : ℕ) → mode_of b mode < 3
 mode_small None mode = omega arith
 mode_small (Some n) mode = omega arith
 

@@ -49,7 +49,7 @@ pub record MarksPass (bs : List ℕ) : Type 0 where
   pub are : AreBytes bs
   pub few : length bs ≤ 4
 
-passing : (seg : Option ℕ) (narrow lock : Bool) (rep : Rep) → IsSegment seg → MarksPass (marks seg narrow lock rep)
+pub passing : (seg : Option ℕ) (narrow lock : Bool) (rep : Rep) → IsSegment seg → MarksPass (marks seg narrow lock rep)
 passing seg narrow lock rep h =
     let bs : List ℕ = marks seg narrow lock rep in
     let p = and_parts (list_all (λ b. is_prefix b && nat_lt b 256) bs) (nat_le (length bs) 4) (marks_pass seg narrow lock rep h) in
@@ -60,7 +60,7 @@ passing seg narrow lock rep h =
       few = leb-true (length bs) 4 p.1;
     }
 
-number_of_opcode : (o : ℕ) → IsOpcode o → (o < 256) ⊎ ((3840 ≤ o) × (o < 4096))
+pub number_of_opcode : (o : ℕ) → IsOpcode o → (o < 256) ⊎ ((3840 ≤ o) × (o < 4096))
 number_of_opcode o (byte h p q) = inl h
 number_of_opcode o (pair h k) = inr (h, k)
 

@@ -253,3 +253,12 @@ module _ (f : Fields) (w : Width) (bs : List ℕ) (r : Row) (sh : is_placed r �
       let y : operand_length w r.second ≡ 0 = no_tail w r.second o.0 in let e : operand_length w r.third ≡ 0 = no_tail w r.third o.1 in
       let v = value_first (not_absent is_tail refl r.first t) in
       ap (λ i. operand_bytes (operand_length w r.first) i) (at_first v.0 v.1) ∙ tail_by r.first v.0 (omega (arith, h, y, e)) b v.1)
+
+  -- what is made of the operand that the ModRM byte names
+  pub place_taken : {X : Type 0} (of : Arg → X) (none : X) (p : Arg) → f.place ≡ Some p → has_modrm r ≡ true →
+      cond (is_place r.first) (of (get_or its 0 args.Cr0)) (cond (is_place r.second) (of (get_or its 1 args.Cr0)) none) ≡ of p
+  place_taken of none p is h =
+      pick (is_place r.first) (is_place r.second) _ _ _ (of p)
+      (λ e. ap of (at_first p (place_said f w bs r.first e ∙ is)))
+      (λ e. let n = not_absent is_place refl r.second e in ap of (at_second (order n) p (place_said f w bs r.second e ∙ is)))
+      (place_stands h)

@@ -60,7 +60,7 @@ same_opcode o p xs ys (pair h i) (pair k l) e =
     record { opcode = omega arith; behind = cc }
 
 -- prefixes end where the opcode begins
-same_parts : (ps qs : List ℕ) (o p : ℕ) (xs ys : List ℕ) → All (λ b. is_prefix b ≡ true) ps → All (λ b. is_prefix b ≡ true) qs → IsOpcode o → IsOpcode p →
+pub same_parts : (ps qs : List ℕ) (o p : ℕ) (xs ys : List ℕ) → All (λ b. is_prefix b ≡ true) ps → All (λ b. is_prefix b ≡ true) qs → IsOpcode o → IsOpcode p →
     ps ++ (opcode_bytes o ++ xs) ≡ qs ++ (opcode_bytes p ++ ys) → Same o p xs ys
 same_parts [] [] o p xs ys h k i j e = same_opcode o p xs ys i j e
 same_parts [] (q ∷ qs) o p xs ys h k i j e =
