@@ -25,11 +25,11 @@ unfolding operation
 name_is r f tail = refl
 
 -- the row of a spelling has the operation's name
-row_named : (op : Op) (bytes : List ℕ) (s : Spells op bytes) → s.row.name ≡ op.name
+pub row_named : (op : Op) (bytes : List ℕ) (s : Spells op bytes) → s.row.name ≡ op.name
 row_named op bytes s = sym (ap (λ (x : Op). x.name) s.spelled ∙ name_is s.row _ s.tail)
 
 -- what comes not before bytes that are reached is reached
-reached_too : (best : Option (ArrayVec ℕ)) (bytes other : List ℕ) → is_before bytes other ≡ false → IsReached best other → IsReached best bytes
+pub reached_too : (best : Option (ArrayVec ℕ)) (bytes other : List ℕ) → is_before bytes other ≡ false → IsReached best other → IsReached best bytes
 reached_too None bytes other h r = r
 reached_too (Some b) bytes other h r = not_before_trans bytes other b.items h r
 

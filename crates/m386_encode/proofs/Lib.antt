@@ -20,3 +20,4 @@ pub mod InFull
 pub mod Fuller
 pub mod Widened
 pub mod WideCandidate
+pub mod WideChosen

@@ -76,11 +76,11 @@ unfoldable pub displacement_size : List ℕ → ℕ
 displacement_size [] = 0
 displacement_size (m ∷ ms) = if top m == 3 then 0 else if low m == 4 then length ms - 1 else length ms
 
-size_based : (m : ℕ) (ds : List ℕ) → top m ≢ 3 → low m ≢ 4 → displacement_size (m ∷ ds) ≡ length ds
+pub size_based : (m : ℕ) (ds : List ℕ) → top m ≢ 3 → low m ≢ 4 → displacement_size (m ∷ ds) ≡ length ds
 unfolding displacement_size
 size_based m ds h k = rw (ne_eqb (top m) 3 h) (rw (ne_eqb (low m) 4 k) refl)
 
-size_indexed : (m s : ℕ) (ds : List ℕ) → top m ≢ 3 → low m ≡ 4 → displacement_size (m ∷ s ∷ ds) ≡ length ds
+pub size_indexed : (m s : ℕ) (ds : List ℕ) → top m ≢ 3 → low m ≡ 4 → displacement_size (m ∷ s ∷ ds) ≡ length ds
 unfolding displacement_size
 size_indexed m s ds h k = rw (ne_eqb (top m) 3 h) (rw (eq-eqb (low m) 4 k) (omega arith))
 

@@ -30,6 +30,11 @@ abbrev pub IsReached : Option (ArrayVec ℕ) → List ℕ → Type 0
 IsReached None other = ⊥
 IsReached (Some best) other = is_before other best.items ≡ false
 
+-- there are bytes, and they are those by which the row would spell the operation
+abbrev pub IsCandidate : Op → Row → Bool → ℕ → Option (ArrayVec ℕ) → Type 0
+IsCandidate op row narrow mode None = ⊥
+IsCandidate op row narrow mode (Some best) = best.items ≡ candidate op row narrow mode
+
 -- the bytes by which the row would spell the operation come not before the best, where they do spell it
 pub record IsMet (op : Op) (best : Option (ArrayVec ℕ)) (row : Row) : Type 0 where
   pub met : (narrow : Bool) (mode : ℕ) → mode < 3 → length (candidate op row narrow mode) ≤ 15 → IsSpelling op (candidate op row narrow mode) →

@@ -1,11 +1,11 @@
 //! The shortest spelling of an operation: the earliest of the candidates of all rows that spell it.
-ghost use Rattle.std.specs.Prelude.{◌≡◌, ◌↔◌, ◌<◌, ◌≤◌, ◌++◌, true, None, Some, List, ℕ, length, get_or};
+ghost use Rattle.std.specs.Prelude.{◌≡◌, ◌↔◌, ◌⊎◌, ◌<◌, ◌≤◌, ◌++◌, true, None, Some, List, ℕ, length, get_or};
 ghost use Rattle.m386_opmap.specs.Opcodes.{opcode_rows};
 ghost use Rattle.m386_opmap.specs.Readings.{reading_of};
 ghost use Rattle.m386_opmap.specs.Spelling.{Spells};
 ghost use Rattle.m386_opmap.specs.declared.outcome.Reading.TheVariants.{Spelled};
 ghost use Rattle.m386_encode.specs.Candidates.{candidate};
-ghost use Rattle.m386_encode.specs.Shortest.{IsShortest, IsSpelling, IsSound, IsReached, IsMet, no_row};
+ghost use Rattle.m386_encode.specs.Shortest.{IsShortest, IsSpelling, IsSound, IsReached, IsCandidate, IsMet, no_row};
 
 use crate::candidate::candidate_of;
 use crate::order::before;
@@ -36,6 +36,7 @@ fn earlier(op: &Op, best: Option<Bytes>, bytes: Bytes) -> Option<Bytes>
     ensures sound { IsSound op.now result }
     ensures kept { (other : List ℕ) → IsReached best other → IsReached result other }
     ensures met { IsSpelling op.now bytes.items → IsReached result bytes.items }
+    ensures one { (result ≡ best) ⊎ (result ≡ Some bytes) }
 {
     if !spells(op, bytes.as_slice()) {
         return best;
@@ -51,11 +52,18 @@ fn earlier(op: &Op, best: Option<Bytes>, bytes: Bytes) -> Option<Bytes>
 }
 
 /// The earlier of the best spelling so far and the bytes by which a row would spell the operation.
-fn with_choice(op: &Op, best: Option<Bytes>, row: &Row, narrow: bool, mode: u8) -> Option<Bytes>
+pub(crate) fn with_choice(
+    op: &Op,
+    best: Option<Bytes>,
+    row: &Row,
+    narrow: bool,
+    mode: u8,
+) -> Option<Bytes>
     requires { IsSound op.now best }
     ensures sound { IsSound op.now result }
     ensures kept { (other : List ℕ) → IsReached best other → IsReached result other }
     ensures met { length (candidate op.now row.now narrow mode) ≤ 15 → IsSpelling op.now (candidate op.now row.now narrow mode) → IsReached result (candidate op.now row.now narrow mode) }
+    ensures one { (result ≡ best) ⊎ IsCandidate op.now row.now narrow mode result }
 {
     match candidate_of(op, row, narrow, mode) {
         Some(bytes) => earlier(op, best, bytes),

@@ -7,3 +7,4 @@ mod order;
 mod parts;
 pub mod round_trip;
 mod same;
+pub mod wide;
