@@ -1,5 +1,5 @@
 -- What no candidate comes before is the shortest spelling of all.
-use Rattle.std.proofs.Common.{◌≡◌, ℕ, ◌<◌, Bool, true, false, cond, List, get_or, length, refl, sym, ◌∙◌, ap, arith, subst}
+use Rattle.std.proofs.Common.{◌≡◌, ℕ, ◌<◌, ◌≤◌, Bool, true, false, cond, List, get_or, length, refl, sym, ◌∙◌, ap, arith, subst}
 use Rattle.std.specs.Prelude.{Option, Some, None, ◌==◌, ◌↔◌}
 use Rattle.std.proofs.lemmas.List.Elements.{at_from_Contains}
 use Rattle.arrayvec.specs.ArrayVec.{ArrayVec}
@@ -11,7 +11,7 @@ use Rattle.m386_opmap.specs.Operands.{operation}
 use Rattle.m386_opmap.specs.Spelling.{Spells}
 use Rattle.m386_encode.specs.Order.{is_before}
 use Rattle.m386_encode.specs.Shortest.{IsShortest, IsSound, IsReached, IsMet, no_row}
-use Rattle.m386_encode.proofs.Ordered.{not_before_trans}
+use Rattle.m386_encode.proofs.Ordered.{not_before_trans, not_longer}
 use Rattle.m386_encode.proofs.Places.{mode_for, displacement_size}
 use Rattle.m386_encode.proofs.Reduced.{reduced_alike}
 
@@ -54,3 +54,10 @@ shortest_by op (Some b) sound all bytes e =
 pub none_by : (op : Op) (best : Option (ArrayVec ℕ)) → IsSound op best → ((bytes : List ℕ) → Spells op bytes → IsReached best bytes) → (best ≡ None) ↔ ((bytes : List ℕ) → Spells op bytes → ⊥)
 none_by op None sound all = (λ e. all, λ f. refl)
 none_by op (Some b) sound all = (λ e. cc, λ f. absurd (f b.items sound.spells))
+
+-- The shortest spelling has at most 15 bytes, since a candidate that has is no shorter.
+pub shortest_is_short : (op : Op) (bytes : List ℕ) → IsShortest op bytes → length bytes ≤ 15
+shortest_is_short op bytes s =
+    let less = reduced_alike op bytes s.spells in
+    let h = not_longer _ bytes (s.first _ less.spells.spells) in
+    omega (arith, h, less.short)

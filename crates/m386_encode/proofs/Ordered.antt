@@ -76,7 +76,8 @@ less_append (x ∷ xs) (y ∷ ys) us vs h p q =
     let next : is_less xs ys ≡ false → is_less (xs ++ us) (ys ++ vs) ≡ false = λ r. less_append xs ys us vs (omega (arith, h)) r q in
     grind (arith, nat_tests, next, p)
 
-not_longer : (xs ys : List ℕ) → is_before xs ys ≡ false → length ys ≤ length xs
+-- what no others come before is at most as long as they
+pub not_longer : (xs ys : List ℕ) → is_before xs ys ≡ false → length ys ≤ length xs
 unfolding is_before
 not_longer xs ys p = grind (arith, nat_tests, p)
 

@@ -1,5 +1,5 @@
 -- What no wide candidate comes before is the shortest wide spelling of all.
-use Rattle.std.proofs.Common.{◌≡◌, ℕ, ◌<◌, ◌⊎◌, inl, inr, Bool, true, List, get_or, length, refl, sym, ◌∙◌, subst}
+use Rattle.std.proofs.Common.{◌≡◌, ℕ, ◌<◌, ◌≤◌, ◌⊎◌, inl, inr, Bool, true, List, get_or, length, refl, arith, sym, ◌∙◌, subst}
 use Rattle.std.specs.Prelude.{Option, Some, None, ◌↔◌}
 use Rattle.std.specs.List.{Contains}
 use Rattle.std.proofs.lemmas.List.Elements.{at_from_Contains}
@@ -14,6 +14,7 @@ use Rattle.m386_opmap.specs.Spelling.{Spells}
 use Rattle.m386_encode.specs.Shortest.{IsSound, IsReached, IsCandidate, no_row}
 use Rattle.m386_encode.specs.Wide.{is_full, HasWholeDisplacement, IsWide, IsShortestWide, IsWideSound, IsMetWide, IsOffered}
 use Rattle.m386_encode.proofs.Chosen.{row_named, reached_too}
+use Rattle.m386_encode.proofs.Ordered.{not_longer}
 use Rattle.m386_encode.proofs.Places.{displacement_size, size_based, size_indexed}
 use Rattle.m386_encode.proofs.Reduced.{reduced_wide}
 use Rattle.m386_encode.proofs.WideCandidate.{wide_candidate}
@@ -64,3 +65,11 @@ shortest_wide_by op (Some b) sound all bytes e =
 pub none_wide_by : (op : Op) (best : Option (ArrayVec ℕ)) → IsWideSound op best → ((bytes : List ℕ) → IsWide op bytes → IsReached best bytes) → (best ≡ None) ↔ ((bytes : List ℕ) → Spells op bytes → ⊥)
 none_wide_by op None sound all = (λ e bytes s. let w = widened op bytes s in all w.bytes w.wide, λ f. refl)
 none_wide_by op (Some b) sound all = (λ e. cc, λ f. absurd (f b.items sound.spells))
+
+-- The shortest wide spelling has at most 15 bytes, since a wide candidate that has is no shorter.
+pub wide_is_short : (op : Op) (bytes : List ℕ) → IsShortestWide op bytes → length bytes ≤ 15
+wide_is_short op bytes s =
+    let w = s.wide in
+    let less = reduced_wide op bytes w.spells (four_bytes w.spells.form w.displaced) in
+    let h = not_longer _ bytes (s.first _ (wide_candidate op w.spells.row _ w.spells.listed w.full less.spells.spells)) in
+    omega (arith, h, less.short)

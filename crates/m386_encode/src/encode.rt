@@ -1,10 +1,9 @@
 //! The shortest spelling of an operation: the earliest of the candidates of all rows that spell it.
-ghost use Rattle.std.specs.Prelude.{◌≡◌, ◌↔◌, ◌⊎◌, ◌<◌, ◌≤◌, ◌++◌, true, None, Some, List, ℕ, length, get_or};
+ghost use Rattle.std.specs.Prelude.{◌≡◌, ◌↔◌, ◌⊎◌, ◌<◌, ◌≤◌, true, None, Some, List, ℕ, length, get_or};
 ghost use Rattle.m386_opmap.specs.Opcodes.{opcode_rows};
-ghost use Rattle.m386_opmap.specs.Readings.{reading_of};
 ghost use Rattle.m386_opmap.specs.Spelling.{Spells};
-ghost use Rattle.m386_opmap.specs.declared.outcome.Reading.TheVariants.{Spelled};
 ghost use Rattle.m386_encode.specs.Candidates.{candidate};
+ghost use Rattle.m386_encode.specs.RoundTrip.{IsReadBack};
 ghost use Rattle.m386_encode.specs.Shortest.{IsShortest, IsSpelling, IsSound, IsReached, IsCandidate, IsMet, no_row};
 
 use crate::candidate::candidate_of;
@@ -117,8 +116,8 @@ pub fn encode(op: &Op) -> Option<ArrayVec<u8, 15>>
     ensures shortest { (bytes : _) → result ≡ Some bytes → IsShortest op.now bytes.items }
     // There are none exactly where no bytes spell the operation.
     ensures none { (result ≡ None) ↔ ((bytes : List ℕ) → Spells op.now bytes → ⊥) }
-    // They read as the operation, whatever bytes follow.
-    ensures read { (bytes : _) (rest : List ℕ) → result ≡ Some bytes → reading_of (bytes.items ++ rest) ≡ Spelled op.now (length bytes.items) }
+    // They are decoded to the operation, whatever bytes follow.
+    ensures decoded { (bytes : _) → result ≡ Some bytes → IsReadBack op.now bytes.items }
 {
     best_of(op)
 }

@@ -1,11 +1,10 @@
 //! The wide spelling of an operation: the earliest of the wide candidates of all full rows that spell it.
-ghost use Rattle.std.specs.Prelude.{◌≡◌, ◌↔◌, ◌<◌, ◌++◌, true, Option, Some, None, List, ℕ, length, get_or};
+ghost use Rattle.std.specs.Prelude.{◌≡◌, ◌↔◌, ◌<◌, true, Option, Some, None, List, ℕ, length, get_or};
 ghost use Rattle.std.specs.List.{All, Contains};
 ghost use Rattle.m386_opmap.specs.Opcodes.{opcode_rows};
-ghost use Rattle.m386_opmap.specs.Readings.{reading_of};
 ghost use Rattle.m386_opmap.specs.Spelling.{Spells};
-ghost use Rattle.m386_opmap.specs.declared.outcome.Reading.TheVariants.{Spelled};
 ghost use Rattle.m386_opmap.specs.declared.row.Operand.TheVariants.{Jb};
+ghost use Rattle.m386_encode.specs.RoundTrip.{IsReadBack};
 ghost use Rattle.m386_encode.specs.Shortest.{IsReached, no_row};
 ghost use Rattle.m386_encode.specs.Wide.{is_always_near, is_brief, is_full, IsShortestWide, IsWideSound, IsMetBy, IsMetWide, IsOffered, HasFullRow};
 
@@ -112,8 +111,8 @@ pub fn encode_wide(op: &Op) -> Option<ArrayVec<u8, 15>>
     ensures shortest { (bytes : _) → result ≡ Some bytes → IsShortestWide op.now bytes.items }
     // There are none exactly where no bytes spell the operation, wide or not.
     ensures none { (result ≡ None) ↔ ((bytes : List ℕ) → Spells op.now bytes → ⊥) }
-    // They read as the operation, whatever bytes follow.
-    ensures read { (bytes : _) (rest : List ℕ) → result ≡ Some bytes → reading_of (bytes.items ++ rest) ≡ Spelled op.now (length bytes.items) }
+    // They are decoded to the operation, whatever bytes follow.
+    ensures decoded { (bytes : _) → result ≡ Some bytes → IsReadBack op.now bytes.items }
 {
     best_wide_of(op)
 }
