@@ -3,6 +3,7 @@
 
 pub mod access;
 pub mod after;
+pub mod alone;
 pub mod answer;
 pub mod begin;
 pub mod code;
