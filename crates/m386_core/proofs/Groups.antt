@@ -39,10 +39,6 @@ room_shrinks cpu old new m s =
     let b : 192 * new.budget * new.cpus ≡ 192 * old.budget * old.cpus = rw (s.same.budget, s.same.cpus) refl in
     omega arith
 
--- no processor but this one is amid a group
-abbrev IsAlone : ℕ → MachineView → Type 0
-IsAlone cpu m = (q : ℕ) → HasAmidGroup m q → q ≡ cpu
-
 -- a group as far as it has been made
 pub record GroupSoFar (cpu : ℕ) (old now : MachineView) : Type 0 where
   pub made : MakesGroup cpu old now
