@@ -6,12 +6,12 @@ use Rattle.std.proofs.lemmas.Bool.Decides.{nat_tests}
 use Rattle.m386_base.specs.declared.number.Width.{Width}
 use Rattle.m386_base.specs.declared.number.Width.TheVariants.{W8, W16, W32}
 use Rattle.m386_opmap.specs.declared.op.Arg.{Arg}
-use Rattle.m386_opmap.specs.declared.op.Arg.TheVariants.{Mem}
 use Rattle.m386_opmap.specs.Forms.{Form, absent, register, based, indexed, top, middle, low, bits, bytes_in, number, extended, displacement, displacement_length, base_of, index_of, scale_of}
 use Rattle.m386_opmap.proofs.Numbers.{extended_whole}
 use Rattle.m386_encode.specs.Candidates.{lowest}
 use Rattle.m386_encode.specs.Wide.{HasWholeDisplacement}
 use Rattle.m386_encode.proofs.Octets.{lowest_are, lowest_size}
+use Rattle.m386_encode.proofs.Places.{memory}
 use Rattle.m386_encode.proofs.Values.{Bytes, later}
 
 -- a number of as many bytes as a width has
@@ -55,9 +55,6 @@ pub record Whole (seg : Option ℕ) (mid : ℕ) (place : Option Arg) : Type 0 wh
   pub form : Form seg bytes mid place
   pub displaced : HasWholeDisplacement form
   pub are : Bytes bytes
-
-abbrev memory : Option ℕ → Option ℕ → Option ℕ → ℕ → ℕ → Arg
-memory seg b i k disp = Mem (record { seg = seg; base = b; index = i; scale = k; disp = disp })
 
 -- a choice of three sizes
 abbrev sizes : Bool → Bool → Bool → ℕ

@@ -14,7 +14,7 @@ use Rattle.m386_encode.proofs.Ordered.{less_self, less_step, not_before, not_bef
 use Rattle.m386_encode.proofs.Values.{later, Bytes, lowest_number, lowest_signed}
 
 -- an address from its parts
-abbrev memory : Option ℕ → Option ℕ → Option ℕ → ℕ → ℕ → Arg
+abbrev pub memory : Option ℕ → Option ℕ → Option ℕ → ℕ → ℕ → Arg
 memory seg b i k disp = Mem (record { seg = seg; base = b; index = i; scale = k; disp = disp })
 
 register_at : (seg : Option ℕ) (mid n : ℕ) → mid < 8 → n < 8 → Form seg ((192 + 8 * mid + n) ∷ []) mid (Some (Reg n))

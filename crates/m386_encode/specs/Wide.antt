@@ -32,7 +32,8 @@ is_brief name One = true
 is_brief name Jb = not (is_always_near name)
 is_brief name _ = false
 
--- whether each operand of a row has its full size
+-- Whether each operand of a row has its full size.
+-- Own choice: docs/DECISIONS.md, "Which spelling is written"
 abbrev pub is_full : Row → Bool
 is_full r = not (is_brief r.name r.first) && not (is_brief r.name r.second) && not (is_brief r.name r.third)
 
