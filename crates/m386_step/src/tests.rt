@@ -1,5 +1,7 @@
 //! Worked steps: each over a bus of a few bytes, and over every front of the values that it reads.
-ghost use Rattle.std.specs.Prelude.{◌≡◌, ◌<◌, false};
+mod decoding;
+
+ghost use Rattle.std.specs.Prelude.{◌≡◌, ◌<◌, ◌≤◌, false, length};
 
 use crate::answer::Probe;
 use crate::probe::probe;
@@ -24,7 +26,7 @@ const DATA: [u8; 8] = [0x11, 0x22, 0x33, 0x44, 0x55, 0x66, 0x77, 0x88];
 struct Case<'a> {
     name: &'a str,
     before: Proc,
-    code: [u8; 8],
+    code: &'a [u8],
     cycles: &'a [Ask],
     after: Proc,
 }
@@ -140,7 +142,8 @@ fn requested(p: &Proc, vector: u8, shadow: bool) -> Proc {
 }
 
 /// A bus that holds the bytes of a case.
-fn bus_of(code: [u8; 8]) -> FixedBus<0x1018>
+fn bus_of(code: &[u8]) -> FixedBus<0x1018>
+    requires { length code.now ≤ 16 }
     ensures free { (⟦<FixedBus<0x1018> as Bus>⟧.view result).kept ≡ false }
 {
     let mut bus = FixedBus::<0x1018>::new();
@@ -156,9 +159,9 @@ fn bus_of(code: [u8; 8]) -> FixedBus<0x1018>
 
 /// The step over a bus that holds the bytes of the case.
 fn step_over_bytes(rt: &impl Abort, case: &Case<'_>) {
-    let mut bus = bus_of(case.code);
     let mut p = case.before;
-    assert!(rt; p.mode != Mode::Shutdown);
+    assert!(rt; p.mode != Mode::Shutdown && case.code.len() <= 16);
+    let mut bus = bus_of(case.code);
     assert_eq!(rt; step(&mut p, &mut bus), Ok(()), "{}", case.name);
     assert_eq!(rt; p, case.after, "{}", case.name);
     assert_eq!(rt; bus.cycles().len(), case.cycles.len(), "{}", case.name);
@@ -213,14 +216,14 @@ fn moves_make_their_cycles(rt: HostRuntime) {
         Case {
             name: "MOV EBX, 12345678h",
             before: p,
-            code: [0xbb, 0x78, 0x56, 0x34, 0x12, 0, 0, 0],
+            code: &[0xbb, 0x78, 0x56, 0x34, 0x12, 0, 0, 0],
             cycles: &[fetch(0x1000, 0x3456_78bb), fetch(0x1004, 0x12)],
             after: loaded(&p, 0x1005, 3, 0x1234_5678),
         },
         Case {
             name: "MOV EAX, [1010h], whose opcode ends a group",
             before: at(&p, 0x1003),
-            code: [0, 0, 0, 0xa1, 0x10, 0x10, 0, 0],
+            code: &[0, 0, 0, 0xa1, 0x10, 0x10, 0, 0],
             cycles: &[
                 fetch(0x1000, 0xa100_0000),
                 fetch(0x1004, 0x1010),
@@ -231,7 +234,7 @@ fn moves_make_their_cycles(rt: HostRuntime) {
         Case {
             name: "MOV EAX, [1013h], split over two groups",
             before: p,
-            code: [0xa1, 0x13, 0x10, 0, 0, 0, 0, 0],
+            code: &[0xa1, 0x13, 0x10, 0, 0, 0, 0, 0],
             cycles: &[
                 fetch(0x1000, 0x0010_13a1),
                 fetch(0x1004, 0),
@@ -243,7 +246,7 @@ fn moves_make_their_cycles(rt: HostRuntime) {
         Case {
             name: "MOV EAX, [FFFFFFFCh], whose last byte is the last of all",
             before: p,
-            code: [0xa1, 0xfc, 0xff, 0xff, 0xff, 0, 0, 0],
+            code: &[0xa1, 0xfc, 0xff, 0xff, 0xff, 0, 0, 0],
             cycles: &[
                 fetch(0x1000, 0xffff_fca1),
                 fetch(0x1004, 0xff),
@@ -254,14 +257,14 @@ fn moves_make_their_cycles(rt: HostRuntime) {
         Case {
             name: "MOV EAX, [FFFFFFFDh], past the last offset",
             before: p,
-            code: [0xa1, 0xfd, 0xff, 0xff, 0xff, 0, 0, 0],
+            code: &[0xa1, 0xfd, 0xff, 0xff, 0xff, 0, 0, 0],
             cycles: &[fetch(0x1000, 0xffff_fda1), fetch(0x1004, 0xff)],
             after: pending(&p, 13, Some(0)),
         },
         Case {
             name: "MOV [1011h], EAX, split over two groups",
             before: p,
-            code: [0xa3, 0x11, 0x10, 0, 0, 0, 0, 0],
+            code: &[0xa3, 0x11, 0x10, 0, 0, 0, 0, 0],
             cycles: &[
                 fetch(0x1000, 0x0010_11a3),
                 fetch(0x1004, 0),
@@ -273,7 +276,7 @@ fn moves_make_their_cycles(rt: HostRuntime) {
         Case {
             name: "MOV [FFFFFFFDh], EAX, past the last offset",
             before: p,
-            code: [0xa3, 0xfd, 0xff, 0xff, 0xff, 0, 0, 0],
+            code: &[0xa3, 0xfd, 0xff, 0xff, 0xff, 0, 0, 0],
             cycles: &[fetch(0x1000, 0xffff_fda3), fetch(0x1004, 0xff)],
             after: pending(&p, 13, Some(0)),
         },
@@ -291,7 +294,7 @@ fn exchange_is_one_locked_group(rt: HostRuntime) {
         Case {
             name: "XCHG [1010h], ECX",
             before: p,
-            code: [0x87, 0x0d, 0x10, 0x10, 0, 0, 0, 0],
+            code: &[0x87, 0x0d, 0x10, 0x10, 0, 0, 0, 0],
             cycles: &[
                 fetch(0x1000, 0x1010_0d87),
                 fetch(0x1004, 0),
@@ -303,7 +306,7 @@ fn exchange_is_one_locked_group(rt: HostRuntime) {
         Case {
             name: "XCHG [1011h], ECX, split over two groups",
             before: p,
-            code: [0x87, 0x0d, 0x11, 0x10, 0, 0, 0, 0],
+            code: &[0x87, 0x0d, 0x11, 0x10, 0, 0, 0, 0],
             cycles: &[
                 fetch(0x1000, 0x1011_0d87),
                 fetch(0x1004, 0),
@@ -317,14 +320,14 @@ fn exchange_is_one_locked_group(rt: HostRuntime) {
         Case {
             name: "XCHG [FFFFFFFFh], ECX, past the last offset",
             before: p,
-            code: [0x87, 0x0d, 0xff, 0xff, 0xff, 0xff, 0, 0],
+            code: &[0x87, 0x0d, 0xff, 0xff, 0xff, 0xff, 0, 0],
             cycles: &[fetch(0x1000, 0xffff_0d87), fetch(0x1004, 0xffff)],
             after: pending(&p, 13, Some(0)),
         },
         Case {
             name: "XCHG of two registers, which isn't built",
             before: p,
-            code: [0x87, 0xc5, 0, 0, 0, 0, 0, 0],
+            code: &[0x87, 0xc5, 0, 0, 0, 0, 0, 0],
             cycles: &[fetch(0x1000, 0xc587)],
             after: pending(&p, 6, None),
         },
@@ -342,28 +345,28 @@ fn jumps_are_taken_modulo_2_to_the_32(rt: HostRuntime) {
         Case {
             name: "JMP 5, past the last offset",
             before: p,
-            code: [0xe9, 0, 0xf0, 0xff, 0xff, 0, 0, 0],
+            code: &[0xe9, 0, 0xf0, 0xff, 0xff, 0, 0, 0],
             cycles: &[fetch(0x1000, 0xfff0_00e9), fetch(0x1004, 0xff)],
             after: at(&p, 5),
         },
         Case {
             name: "JMP 80001000h",
             before: p,
-            code: [0xe9, 0xfb, 0xff, 0xff, 0x7f, 0, 0, 0],
+            code: &[0xe9, 0xfb, 0xff, 0xff, 0x7f, 0, 0, 0],
             cycles: &[fetch(0x1000, 0xffff_fbe9), fetch(0x1004, 0x7f)],
             after: at(&p, 0x8000_1000),
         },
         Case {
             name: "JMP 1081h",
             before: p,
-            code: [0xeb, 0x7f, 0, 0, 0, 0, 0, 0],
+            code: &[0xeb, 0x7f, 0, 0, 0, 0, 0, 0],
             cycles: &[fetch(0x1000, 0x7feb)],
             after: at(&p, 0x1081),
         },
         Case {
             name: "JMP F82h",
             before: p,
-            code: [0xeb, 0x80, 0, 0, 0, 0, 0, 0],
+            code: &[0xeb, 0x80, 0, 0, 0, 0, 0, 0],
             cycles: &[fetch(0x1000, 0x80eb)],
             after: at(&p, 0xf82),
         },
@@ -376,7 +379,7 @@ fn jumps_are_taken_modulo_2_to_the_32(rt: HostRuntime) {
     let last = Case {
         name: "JMP FFFFFFF0h from the last two bytes",
         before: at(&p, 0xffff_fffe),
-        code: [0; 8],
+        code: &[],
         cycles: &[fetch(0xffff_fffc, 0xf0eb_0000)],
         after: at(&p, 0xffff_fff0),
     };
@@ -408,7 +411,7 @@ fn a_turn_without_an_instruction_makes_no_cycle(rt: HostRuntime) {
         let case = Case {
             name,
             before,
-            code: [0xf4, 0, 0, 0, 0, 0, 0, 0],
+            code: &[0xf4, 0, 0, 0, 0, 0, 0, 0],
             cycles: &[],
             after,
         };
@@ -423,9 +426,9 @@ fn an_instruction_halts_faults_or_traps(rt: HostRuntime) {
     let mut user = p;
     user.segs[1].selector = 0x1b;
     let traced = flagged(&p, 0x102);
-    let halt = [0xf4, 0, 0, 0, 0, 0, 0, 0];
-    let undefined = [0x0f, 0, 0, 0, 0, 0, 0, 0];
-    let jump = [0xeb, 0xfe, 0, 0, 0, 0, 0, 0];
+    let halt = &[0xf4, 0, 0, 0, 0, 0, 0, 0];
+    let undefined = &[0x0f, 4, 0, 0, 0, 0, 0, 0];
+    let jump = &[0xeb, 0xfe, 0, 0, 0, 0, 0, 0];
     let cases = [
         Case {
             name: "HLT",
@@ -445,7 +448,7 @@ fn an_instruction_halts_faults_or_traps(rt: HostRuntime) {
             name: "an undefined opcode",
             before: p,
             code: undefined,
-            cycles: &[fetch(0x1000, 0x0f)],
+            cycles: &[fetch(0x1000, 0x040f)],
             after: pending(&p, 6, None),
         },
         Case {
@@ -459,7 +462,7 @@ fn an_instruction_halts_faults_or_traps(rt: HostRuntime) {
             name: "an undefined opcode with TF set",
             before: traced,
             code: undefined,
-            cycles: &[fetch(0x1000, 0x0f)],
+            cycles: &[fetch(0x1000, 0x040f)],
             after: pending(&traced, 6, None),
         },
         Case {
@@ -481,13 +484,13 @@ fn a_run_ends_at_its_budget_or_in_shutdown(rt: HostRuntime) {
     // JMP 1000h, and an undefined opcode, whose fault is dropped by the step after it.
     for (opcode, budget, made, cycles) in [(0xeb, 5, 5, 5), (0xeb, 0, 0, 0), (0x0f, 5, 2, 1)] {
         let mut p = bare();
-        let mut bus = bus_of([opcode, 0xfe, 0, 0, 0, 0, 0, 0]);
+        let mut bus = bus_of(&[opcode, 0xfe, 0, 0, 0, 0, 0, 0]);
         assert_eq!(rt; run(&mut p, &mut bus, budget), Ok(made), "budget {budget}");
         assert_eq!(rt; bus.cycles().len(), cycles, "budget {budget}");
         assert_eq!(rt; p.eip, 0x1000, "budget {budget}");
     }
     let mut p = bare();
-    let mut bus = bus_of([0xeb, 0xfe, 0, 0, 0, 0, 0, 0]);
+    let mut bus = bus_of(&[0xeb, 0xfe, 0, 0, 0, 0, 0, 0]);
     assert_eq!(rt; run(&mut p, &mut bus, 200), Err(Stop::Paused));
     assert_eq!(rt; bus.cycles().len(), 192);
 }
