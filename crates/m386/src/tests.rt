@@ -124,7 +124,7 @@ fn report_of(alloc: Global, cycles: &[&str], begin: &str, pending: &str) -> Resu
 #[test]
 fn reports_the_cycles_of_a_run(rt: HostRuntime) -> Result<(), Fail> {
     // The code, the steps, the cycles, and the processor's line before and behind the other registers.
-    let rows: [(&str, &[u8], &str, &[&str], &str, &str); 5] = [
+    let rows: [(&str, &[u8], &str, &[&str], &str, &str); 7] = [
         (
             "first run",
             &[
@@ -187,6 +187,33 @@ fn reports_the_cycles_of_a_run(rt: HostRuntime) -> Result<(), Fail> {
             ],
             "--steps=1",
             &["c 0 m r . fetch 00 00001000 f 345689f0"],
+            "running steps 1 eip 00001000 efl 00000002 eax 00000000",
+            "06 -",
+        ),
+        (
+            "fifteen bytes that want a sixteenth",
+            &[
+                0x66, 0x66, 0x66, 0x66, 0x66, 0x66, 0x66, 0x66, 0x66, 0x66, 0x66, 0x66, 0x66, 0x66,
+                0xb8, 0x34, 0x12, 0xf4,
+            ],
+            "--steps=1",
+            &[
+                "c 0 m r . fetch 00 00001000 f 66666666",
+                "c 0 m r . fetch 00 00001004 f 66666666",
+                "c 0 m r . fetch 00 00001008 f 66666666",
+                "c 0 m r . fetch 00 0000100c f 34b86666",
+            ],
+            "running steps 1 eip 00001000 efl 00000002 eax 00000000",
+            "0d 0000",
+        ),
+        (
+            "an operation that isn't built",
+            &[0x05, 0x78, 0x56, 0x34, 0x12, 0xf4],
+            "--steps=1",
+            &[
+                "c 0 m r . fetch 00 00001000 f 34567805",
+                "c 0 m r . fetch 00 00001004 f 0000f412",
+            ],
             "running steps 1 eip 00001000 efl 00000002 eax 00000000",
             "06 -",
         ),
