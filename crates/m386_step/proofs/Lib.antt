@@ -1,9 +1,12 @@
+pub mod Anew
 pub mod Beginnings
 pub mod Decoding
 pub mod Fetching
 pub mod Few
 pub mod Locked
+pub mod Once
 pub mod Pieces
+pub mod Rising
 pub mod Short
 pub mod Sources
 pub mod StepLists

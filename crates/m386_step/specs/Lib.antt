@@ -10,6 +10,7 @@ pub mod Instruction
 pub mod Judged
 pub mod Jump
 pub mod Moves
+pub mod Once
 pub mod Operation
 pub mod Probes
 pub mod Run

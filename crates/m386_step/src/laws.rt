@@ -1,5 +1,5 @@
 //! Laws of the step's definition.
-ghost use Rattle.std.specs.Prelude.{◌≡◌, ◌↔◌, ◌⊎◌, ℕ, ◌≤◌, [], List, length, Ok, Err};
+ghost use Rattle.std.specs.Prelude.{◌≡◌, ◌↔◌, ◌⊎◌, ℕ, ◌≤◌, [], ◌∷◌, ◌++◌, List, length, Ok, Err};
 ghost use Rattle.m386_base.specs.declared.ask.Ask.{Ask as AskRecord};
 ghost use Rattle.m386_base.specs.declared.fault.Break.TheVariants as breaks;
 ghost use Rattle.m386_base.specs.declared.fault.Fault.{Fault as FaultRecord};
@@ -12,12 +12,21 @@ ghost use Rattle.m386_step.specs.declared.fetch.Reader.{Reader as ReaderRecord};
 ghost use Rattle.m386_step.specs.Code.{decode_phrase};
 ghost use Rattle.m386_step.specs.Fetched.{DecodesTo, WantsByte};
 ghost use Rattle.m386_step.specs.Judged.{AreJudged};
+ghost use Rattle.m386_step.specs.Once.{FetchesOnce, FetchesDiffer};
 ghost use Rattle.m386_step.specs.Step.{step_phrase, Follow};
 
 /// A step asks for at most 192 cycles, whatever is answered.
 pub fn step_is_short()
     ensures asks { (p : ProcRecord) → AtMost 192 (step_phrase p) }
     ensures cycles { (p after : ProcRecord) (ts : List AskRecord) → Follow p ts ≡ Whole after [] → length ts ≤ 192 }
+{}
+
+/// No group is fetched twice in a step, whatever is answered: not in a whole step, and not in a proper front of one with the
+/// ask that it wants next.
+pub fn no_group_is_fetched_twice()
+    ensures asks { (p : ProcRecord) → FetchesOnce [] (step_phrase p) }
+    ensures whole { (p after : ProcRecord) (ts : List AskRecord) → Follow p ts ≡ Whole after [] → FetchesDiffer ts }
+    ensures wants { (p : ProcRecord) (wanted : AskRecord) (ts : List AskRecord) → Follow p ts ≡ Wants wanted → FetchesDiffer (ts ++ wanted ∷ []) }
 {}
 
 /// No step ends in a fault: an instruction's fault stands as the pending event of the state after it.
