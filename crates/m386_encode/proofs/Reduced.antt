@@ -275,9 +275,6 @@ reduced op bytes s mode fits =
 pub reduced_alike : (op : Op) (bytes : List ℕ) (s : Spells op bytes) → Reduced op s.row (prefixes_of s.prefixes).narrow (mode_for (displacement_size s.modrm)) bytes
 reduced_alike op bytes s = reduced op bytes s (mode_for (displacement_size s.modrm)) (λ m. refl)
 
-pub respelled_wide : (op : Op) (bytes : List ℕ) (s : Spells op bytes) → (is_memory s.place ≡ true → displacement_size s.modrm ≡ 4) → Respelled op bytes s 2
-respelled_wide op bytes s four = respelled op bytes s 2 (λ m. sym (ap mode_for (four m)))
-
 -- the candidate with a displacement of four bytes, where the spelling has one if it names memory
 pub reduced_wide : (op : Op) (bytes : List ℕ) (s : Spells op bytes) → (is_memory s.place ≡ true → displacement_size s.modrm ≡ 4) → Reduced op s.row (prefixes_of s.prefixes).narrow 2 bytes
 reduced_wide op bytes s four = reduced op bytes s 2 (λ m. sym (ap mode_for (four m)))
