@@ -7,7 +7,9 @@ pub mod Groups
 pub mod Growth
 pub mod Lanes
 pub mod Masks
+pub mod Matched
 pub mod Moved
 pub mod Phrases
+pub mod Plain
 pub mod Probing
 pub mod Replays

@@ -34,3 +34,10 @@ attempts (Faults f) ts = []
 attempts (Begins m t) ts = (m, ts) ∷ attempts t ts
 attempts (Asks q k) [] = []
 attempts (Asks q k) (t ∷ ts) = attempts (k (answer_of t)) ts
+
+-- Each ask of a phrase, whatever is answered, is a turn from one stage to another. At the end P holds, at a fault F.
+unfoldable pub Turns : {A S : Type 0} → (S → Ask → ℕ → S → Type 0) → (S → A → Type 0) → (S → Fault → Type 0) → S → Phrase A → Type 0
+Turns T P F s (Done a) = P s a
+Turns T P F s (Faults f) = F s f
+Turns T P F s (Begins m t) = Turns T P F s t
+Turns {S = S} T P F s (Asks q k) = (v : ℕ) → (s2 : S) × T s q v s2 × Turns T P F s2 (k v)

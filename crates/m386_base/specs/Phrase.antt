@@ -1,10 +1,11 @@
 -- What a processor says on its bus, as a tree: what is asked next follows from the values read alone.
-use Rattle.std.specs.Prelude.{◌≡◌, ℕ, Option, Some, Bool, true, false, not, List, [], ◌∷◌, ◌++◌, if◌then◌else◌, cond, ◌&&◌, eqb, ◌≤◌, Result, Ok, Err, bit_and, refl}
+use Rattle.std.specs.Prelude.{◌≡◌, ℕ, Option, Some, None, Bool, true, false, not, List, [], ◌∷◌, ◌++◌, if◌then◌else◌, cond, ◌&&◌, eqb, ◌≤◌, Result, Ok, Err, bit_and, refl}
 use Rattle.m386_base.specs.declared.ask.Ask.{Ask}
 use Rattle.m386_base.specs.declared.fault.Fault.{Fault}
 use Rattle.m386_base.specs.declared.fault.Stop.{Stop}
 use Rattle.m386_base.specs.declared.fault.Break.{Break}
 use Rattle.m386_base.specs.declared.fault.Break.TheVariants as breaks
+use Rattle.m386_base.specs.declared.kind.SwitchKind.{SwitchKind}
 use Rattle.m386_base.specs.declared.ask.Space.{Space}
 use Rattle.m386_base.specs.declared.ask.Space.TheVariants as spaces
 use Rattle.m386_base.specs.declared.ask.Role.{Role}
@@ -12,11 +13,11 @@ use Rattle.m386_base.specs.declared.ask.Role.TheVariants as roles
 use Rattle.m386_base.specs.declared.fault.Stop.TheVariants as stops
 use Rattle.m386_base.specs.Bus.{BusView, Rose, mask}
 
--- What is known where the work of a task switch begins: its kind (0 JMP, 1 CALL, 2 an event, 3 IRET, 4 a start), whether
--- no gate was used, the selector, EXT, CPL, TR and the GDT register.
+-- What is known where the work of a task switch begins: its kind, whether no gate was used, the selector, EXT, CPL, TR and
+-- the GDT register.
 -- Source: Intel 80386 PRM 7.5
 pub record Attempt : Type 0 where
-  pub kind : ℕ
+  pub kind : SwitchKind
   pub direct : Bool
   pub selector : ℕ
   pub ext : Bool
@@ -198,6 +199,15 @@ Performs t old new seen (Err b) = BreaksOff t old new b
 abbrev pub PerformsOrStops : {R A : Type 0} → Phrase A → BusView → BusView → (R → A) → Result R Stop → Type 0
 PerformsOrStops t old new seen (Ok r) = Completes t old new (seen r)
 PerformsOrStops t old new seen (Err s) = BreaksOff t old new (breaks.Stop s)
+
+-- The same of a call whose fault may be seen in a new state. `ran now fault` is what the phrase found, of the state that the
+-- call left and of the fault that is pending in it: none at Ok, and its fault at a fault. Where its bus stopped it, the state
+-- is as before.
+-- Own choice: docs/DECISIONS.md, "A fault in a new task"
+abbrev pub PerformsRan : {R S A : Type 0} → Phrase A → BusView → BusView → (S → Option Fault → A) → S → S → Result R Break → Type 0
+PerformsRan t old new ran before now (Ok r) = Completes t old new (ran now None)
+PerformsRan t old new ran before now (Err (breaks.Fault f)) = Completes t old new (ran now (Some f))
+PerformsRan t old new ran before now (Err (breaks.Stop s)) = BreaksOff t old new (breaks.Stop s) × (now ≡ before)
 
 -- the result itself
 abbrev pub it : {A : Type 0} → A → A

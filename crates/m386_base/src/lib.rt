@@ -6,6 +6,7 @@ pub mod ask;
 pub mod bus;
 pub mod desc;
 pub mod fault;
+pub mod kind;
 pub mod laws;
 pub mod list;
 pub mod number;

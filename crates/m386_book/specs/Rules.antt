@@ -5,7 +5,8 @@ use Rattle.m386_base.specs.declared.ask.Space.TheVariants.{Memory}
 use Rattle.m386_base.specs.declared.ask.Role.{Role}
 use Rattle.m386_base.specs.declared.ask.Role.TheVariants.{Operand, Push, LdtAcc, Flags, Lgdt}
 use Rattle.m386_image.specs.declared.image.Image.{Image}
-use Rattle.m386_book.specs.Bytes.{touches, has_nt}
+use Rattle.m386_base.specs.Bytes.{has_nt}
+use Rattle.m386_book.specs.Bytes.{touches}
 
 -- Rule 1: the GDT doesn't lie inside memory.
 -- Own choice: docs/DECISIONS.md, "The verdict"

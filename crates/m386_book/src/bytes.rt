@@ -1,8 +1,8 @@
 //! The bytes of a cycle, each with its place.
 ghost use Rattle.std.specs.Prelude.{◌≡◌, ◌+◌, ◌-◌, ◌<◌, ◌≤◌, ◌++◌, ◌==◌};
 ghost use Rattle.arrayvec.specs.ArrayVec.{array_vec_len};
-ghost use Rattle.m386_base.specs.Bytes.{byte_of, bytes_of};
-ghost use Rattle.m386_book.specs.Bytes.{first_place, has_nt, is_in_table, is_nt_byte, place_in_access, touches};
+ghost use Rattle.m386_base.specs.Bytes.{byte_of, bytes_of, first_place, has_nt, is_nt_byte, place_in_access};
+ghost use Rattle.m386_book.specs.Bytes.{is_in_table, touches};
 
 use arrayvec::ArrayVec;
 use m386_base::ask::Ask;
@@ -75,7 +75,7 @@ fn is_nt_byte(part: u8, first: u64, byte: PlacedByte) -> bool
 }
 
 /// Whether a byte of this cycle sets NT, where it is a part of an image of the flags (PRM 2.3.4.1).
-#[tactic(auto, unfolding(crate::specs::Bytes::has_nt))]
+#[tactic(auto, unfolding(m386_base::specs::Bytes::has_nt))]
 pub(crate) fn has_nt(ask: &Ask) -> bool
     ensures { result ≡ has_nt ask.now }
 {

@@ -7,8 +7,8 @@ use Rattle.m386_desc.specs.Access.{dpl_of, is_present, is_code_32, is_conforming
 use Rattle.m386_desc.specs.Offsets.{limit_of, are_offsets}
 use Rattle.m386_desc.specs.Selector.{rpl_of, names_ldt, is_null_selector}
 use Rattle.m386_checks.specs.declared.facts.Facts.{Facts}
-use Rattle.m386_checks.specs.declared.facts.SwitchKind.{SwitchKind}
-use Rattle.m386_checks.specs.declared.facts.SwitchKind.TheVariants as switches
+use Rattle.m386_base.specs.declared.kind.SwitchKind.{SwitchKind}
+use Rattle.m386_base.specs.declared.kind.SwitchKind.TheVariants as switches
 use Rattle.m386_checks.specs.declared.table.Test.{Test}
 use Rattle.m386_checks.specs.declared.table.Test.TheVariants as tests
 

@@ -5,8 +5,8 @@ use Rattle.m386_checks.specs.declared.facts.Context.{Context}
 use Rattle.m386_checks.specs.declared.facts.Context.TheVariants.{Old, New}
 use Rattle.m386_checks.specs.declared.facts.Fail.{Fail}
 use Rattle.m386_checks.specs.declared.facts.Facts.{Facts}
-use Rattle.m386_checks.specs.declared.facts.SwitchKind.{SwitchKind}
-use Rattle.m386_checks.specs.declared.facts.SwitchKind.TheVariants as switches
+use Rattle.m386_base.specs.declared.kind.SwitchKind.{SwitchKind}
+use Rattle.m386_base.specs.declared.kind.SwitchKind.TheVariants as switches
 use Rattle.m386_checks.specs.declared.table.Exception.{Exception}
 use Rattle.m386_checks.specs.declared.table.Exception.TheVariants as raises
 use Rattle.m386_checks.specs.declared.table.Row.{Row}

@@ -1,21 +1,7 @@
 //! What is known of a task switch when its checks are made, and how a check fails.
 use m386_base::desc::Desc;
 use m386_base::fault::Fault;
-
-/// What makes a task switch (PRM 7.5).
-#[derive(Clone, Copy, Debug, PartialEq, Eq)]
-pub enum SwitchKind {
-    /// A JMP, also through a task gate.
-    Jmp,
-    /// A CALL, also through a task gate.
-    Call,
-    /// An interrupt or an exception through a task gate of the IDT.
-    Event,
-    /// An IRET of a nested task.
-    Iret,
-    /// The start of a processor in its first task.
-    Start,
-}
+use m386_base::kind::SwitchKind;
 
 /// All that the checks of one switch read. A descriptor is `None` where its selector is null or lies outside its table.
 #[derive(Clone, Copy, Debug, PartialEq, Eq)]

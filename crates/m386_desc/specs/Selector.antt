@@ -1,5 +1,5 @@
 -- The parts of a selector, and the error code that names it.
-use Rattle.std.specs.Prelude.{ℕ, ◌+◌, ◌*◌, ◌/◌, ◌%◌, Bool, ◌==◌, nat_lt, nat_le, if◌then◌else◌}
+use Rattle.std.specs.Prelude.{ℕ, ◌+◌, ◌*◌, ◌/◌, ◌%◌, ◌^◌, Bool, ◌==◌, nat_lt, nat_le, if◌then◌else◌}
 
 -- The requested privilege level: bits 0 and 1.
 -- Source: Intel 80386 PRM 5.1.3
@@ -20,6 +20,11 @@ is_null_selector selector = nat_lt selector 4
 -- Source: Intel 80386 PRM 5.1.3
 unfoldable pub is_in_table : ℕ → ℕ → Bool
 is_in_table selector limit = nat_le (selector / 8 * 8 + 7) limit
+
+-- Where its descriptor stands in a table at this base.
+-- Source: Intel 80386 PRM 5.1.3
+abbrev pub place_in : ℕ → ℕ → ℕ
+place_in base selector = (base + selector / 8 * 8) % 2 ^ 32
 
 -- The code of a fault that names a selector: without its RPL, and with EXT in bit 0.
 -- Source: Intel 80386 PRM 9.7

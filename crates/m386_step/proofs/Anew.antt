@@ -12,7 +12,7 @@ use Rattle.m386_opmap.proofs.Table.{contains_first, contains_later}
 use Rattle.m386_step.specs.Once.{is_fetch, IsAnew, with_fetched, FetchesOnce, groups_fetched, FetchesDiffer}
 
 -- a cycle has the role and the address of the ask that it was made of
-matches-role : (q t : Ask) → matches q t ≡ true → role_number q.role ≡ role_number t.role
+pub matches-role : (q t : Ask) → matches q t ≡ true → role_number q.role ≡ role_number t.role
 unfolding matches
 matches-role q t h = eqb-true _ _ (and_parts _ _ (and_parts _ _ (and_parts _ _ (and_parts _ _ (and_parts _ _ h).0).0).0).0).1
 

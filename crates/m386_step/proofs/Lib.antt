@@ -3,9 +3,9 @@ pub mod Beginnings
 pub mod Decoding
 pub mod Fetching
 pub mod Few
-pub mod Locked
 pub mod Once
-pub mod Pieces
+pub mod Keeping
+pub mod Ordinary
 pub mod Rising
 pub mod Short
 pub mod Sources

@@ -17,16 +17,10 @@ use Rattle.m386_state.specs.declared.proc.Mode.{Mode}
 use Rattle.m386_state.specs.declared.proc.Mode.TheVariants.{Running, Halted, Shutdown}
 use Rattle.m386_state.specs.declared.proc.Proc.{Proc}
 use Rattle.m386_step.specs.declared.fetch.Reader.{Reader}
-use Rattle.m386_step.specs.declared.operation.Operation.{Operation}
-use Rattle.m386_step.specs.declared.operation.Operation.TheVariants.{Exchange, Load, Store, Move, Jump, Halt, Unbuilt}
-use Rattle.m386_step.specs.Access.{memory_pieces, reads, writes, read_phrase, write_phrase}
 use Rattle.m386_step.specs.Code.{read_on, further_phrase, decode_phrase}
-use Rattle.m386_step.specs.Exchange.{locked_reads, locked_writes, swap_phrase, exchange_phrase}
 use Rattle.m386_step.specs.Fetch.{byte_phrase, group_phrase, linear, first_reader, taken, fetch_ask}
-use Rattle.m386_step.specs.Halt.{halted, silent, halt_phrase}
-use Rattle.m386_step.specs.Instruction.{operation_phrase, instruction_phrase}
-use Rattle.m386_step.specs.Moves.{load_phrase, store_phrase}
-use Rattle.m386_step.specs.Operation.{operation_of}
+use Rattle.m386_step.specs.Instruction.{instruction_phrase}
+use Rattle.m386_step.proofs.Ordinary.{short_operation}
 use Rattle.m386_step.specs.Step.{is_due, running_phrase, turn_phrase, step_phrase}
 
 short_group : (r : Reader) → AtMost 1 (group_phrase r)
@@ -55,82 +49,9 @@ short_decode : (r : Reader) → AtMost 15 (decode_phrase r)
 unfolding decode_phrase
 short_decode r = short_further 15 [] r
 
-few_pieces : (offset len : ℕ) → length (memory_pieces offset len) ≤ 2
-unfolding pieces
-few_pieces offset len = go (nat_le (wrapped Memory offset % 4 + len) 4) refl
-  where
-    go : (b : Bool) → nat_le (wrapped Memory offset % 4 + len) 4 ≡ b → length (pieces_from Memory (wrapped Memory offset) len) ≤ 2
-    go true e = rw e (omega arith)
-    go false e = rw e (omega arith)
-
-short_reads : (role : Role) (ps : List Piece) (value : ℕ) → AtMost (length ps) (reads role value ps)
-unfolding reads ◌>>=◌
-short_reads role [] value = tt
-short_reads role (p ∷ ps) value = λ v. short_reads role ps _
-
-short_writes : (role : Role) (ps : List Piece) (value : ℕ) → AtMost (length ps) (writes role value ps)
-unfolding writes ◌>>=◌
-short_writes role [] value = tt
-short_writes role (p ∷ ps) value = λ v. short_writes role ps value
-
-short_locked_reads : (ps : List Piece) (joined : Bool) (value : ℕ) → AtMost (length ps) (locked_reads joined value ps)
-unfolding locked_reads ◌>>=◌
-short_locked_reads [] joined value = tt
-short_locked_reads (p ∷ ps) joined value = λ v. short_locked_reads ps true _
-
-short_locked_writes : (ps : List Piece) (value : ℕ) → AtMost (length ps) (locked_writes value ps)
-unfolding locked_writes ◌>>=◌
-short_locked_writes [] value = tt
-short_locked_writes (p ∷ ps) value = λ v. short_locked_writes ps value
-
-short_read : (role : Role) (offset len : ℕ) → AtMost 2 (read_phrase role offset len)
-unfolding read_phrase
-short_read role offset len =
-    at_most_if 2 (nat_le (offset + len) (2 ^ 32)) _ _ (at_most_within _ 2 (reads role 0 (memory_pieces offset len)) (few_pieces offset len) (short_reads role (memory_pieces offset len) 0)) tt
-
-short_write : (role : Role) (offset len value : ℕ) → AtMost 2 (write_phrase role offset len value)
-unfolding write_phrase
-short_write role offset len value =
-    at_most_if 2 (nat_le (offset + len) (2 ^ 32)) _ _ (at_most_within _ 2 (writes role value (memory_pieces offset len)) (few_pieces offset len) (short_writes role (memory_pieces offset len) value)) tt
-
-short_swap : (offset value : ℕ) → AtMost 4 (swap_phrase offset value)
-unfolding swap_phrase
-short_swap offset value =
-    let groups = memory_pieces offset 4 in
-    at_most_if 4 (nat_le (offset + 4) (2 ^ 32)) _ _
-    (at_most_then 2 2 _ _ (at_most_within _ 2 (locked_reads false 0 groups) (few_pieces offset 4) (short_locked_reads groups false 0)) (λ old. at_most_then 2 0 _ _ (at_most_within _ 2 (locked_writes value groups) (few_pieces offset 4) (short_locked_writes groups value)) (λ u. tt)))
-    tt
-
-short_exchange : (p : Proc) (next register offset : ℕ) → AtMost 8 (exchange_phrase p next register offset)
-unfolding exchange_phrase
-short_exchange p next register offset = at_most_then 4 4 _ _ (short_swap offset _) (λ old. tt)
-
-short_load : (p : Proc) (next register offset : ℕ) → AtMost 8 (load_phrase p next register offset)
-unfolding load_phrase
-short_load p next register offset = at_most_then 2 6 _ _ (short_read Operand offset 4) (λ v. tt)
-
-short_store : (p : Proc) (next register offset : ℕ) → AtMost 8 (store_phrase p next register offset)
-unfolding store_phrase
-short_store p next register offset = at_most_then 2 6 _ _ (short_write Operand offset 4 _) (λ v. tt)
-
-short_silent : {A : Type 0} (n : ℕ) (x : Result A Fault) → AtMost n (silent x)
-short_silent n (Ok a) = tt
-short_silent n (Err f) = tt
-
--- each operation, one line each
-short_operation : (o : Operation) (p : Proc) (next : ℕ) → AtMost 8 (operation_phrase o p next)
-unfolding halt_phrase
-short_operation (Exchange register offset) p next = short_exchange p next register offset
-short_operation (Load register offset) p next = short_load p next register offset
-short_operation (Store register offset) p next = short_store p next register offset
-short_operation (Move register number) p next = tt
-short_operation (Jump distance) p next = tt
-short_operation Halt p next = short_silent 8 (halted p next)
-short_operation Unbuilt p next = tt
-
 short_instruction : (p : Proc) → AtMost 23 (instruction_phrase p)
 unfolding instruction_phrase
-short_instruction p = at_most_then 15 8 _ _ (short_decode (first_reader p)) (λ d. short_operation (operation_of d.op) p _)
+short_instruction p = at_most_then 15 8 _ _ (short_decode (first_reader p)) (λ d. short_operation d.op _)
 
 short_running : (p : Proc) → AtMost 192 (running_phrase p)
 unfolding running_phrase

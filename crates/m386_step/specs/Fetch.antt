@@ -8,7 +8,7 @@ use Rattle.m386_desc.specs.Offsets.{limit_of}
 use Rattle.m386_state.specs.declared.proc.Proc.{Proc}
 use Rattle.m386_state.specs.Start.{seg_at}
 use Rattle.m386_step.specs.declared.fetch.Reader.{Reader}
-use Rattle.m386_step.specs.Faults.{general_protection_of}
+use Rattle.m386_access.specs.Faults.{general_protection_of}
 
 -- byte at % 4 of a group
 abbrev pub byte_in : ℕ → ℕ → ℕ

@@ -1,33 +1,28 @@
--- One instruction: the case of each operation.
-use Rattle.std.specs.Prelude.{ℕ, ◌+◌, ◌%◌, ◌^◌}
-use Rattle.m386_base.specs.Phrase.{Phrase, Done, Faults, ◌>>=◌}
+-- One instruction: the crate that has its operation.
+use Rattle.std.specs.Prelude.{ℕ, ◌+◌, ◌%◌, ◌^◌, if◌then◌else◌}
+use Rattle.m386_base.specs.Phrase.{Phrase, Faults, ◌>>=◌}
+use Rattle.m386_opmap.specs.declared.op.Op.{Op}
 use Rattle.m386_state.specs.declared.proc.Proc.{Proc}
-use Rattle.m386_step.specs.declared.operation.Operation.{Operation}
-use Rattle.m386_step.specs.declared.operation.Operation.TheVariants.{Exchange, Load, Store, Move, Jump, Halt, Unbuilt}
-use Rattle.m386_step.specs.After.{moved, with_register}
+use Rattle.m386_access.specs.After.{moved}
+use Rattle.m386_access.specs.Faults.{undefined_opcode_of}
+use Rattle.m386_access.specs.Ran.{plainly}
+use Rattle.m386_access.specs.declared.ran.Ran.{Ran}
+use Rattle.m386_data.specs.Exec as data_ops
+use Rattle.m386_system.specs.Exec as system_ops
 use Rattle.m386_step.specs.Code.{decode_phrase}
-use Rattle.m386_step.specs.Exchange.{exchange_phrase}
-use Rattle.m386_step.specs.Faults.{undefined_opcode_of}
 use Rattle.m386_step.specs.Fetch.{first_reader}
-use Rattle.m386_step.specs.Halt.{halt_phrase}
-use Rattle.m386_step.specs.Jump.{jumped}
-use Rattle.m386_step.specs.Moves.{load_phrase, store_phrase}
-use Rattle.m386_step.specs.Operation.{operation_of}
 
--- What an operation does behind its last byte, with EIP there. One that isn't built is #UD.
+-- What an operation does, with EIP behind it: the first crate that takes it. One that isn't built is #UD.
 -- Source: Intel 80386 PRM 17.2; #UD: docs/DECISIONS.md, "Operations that aren't built"
-abbrev pub operation_phrase : Operation → Proc → ℕ → Phrase Proc
-operation_phrase (Exchange register offset) p next = exchange_phrase p next register offset
-operation_phrase (Load register offset) p next = load_phrase p next register offset
-operation_phrase (Store register offset) p next = store_phrase p next register offset
-operation_phrase (Move register number) p next = Done (with_register (moved p next) register number)
-operation_phrase (Jump distance) p next = Done (jumped p next distance)
-operation_phrase Halt p next = halt_phrase p next
-operation_phrase Unbuilt p next = Faults undefined_opcode_of
+unfoldable pub operation_phrase : Op → Proc → Phrase Ran
+operation_phrase op p =
+    if data_ops.takes op then plainly (data_ops.exec_phrase op p)
+    else if system_ops.takes op then plainly (system_ops.exec_phrase op p)
+    else Faults undefined_opcode_of
 
 -- The instruction at EIP.
 -- Source: Intel 80386 PRM 17.2.1
-unfoldable pub instruction_phrase : Proc → Phrase Proc
+unfoldable pub instruction_phrase : Proc → Phrase Ran
 instruction_phrase p = do
   d ← decode_phrase (first_reader p)
-  operation_phrase (operation_of d.op) p ((p.eip + d.len) % 2 ^ 32)
+  operation_phrase d.op (moved p ((p.eip + d.len) % 2 ^ 32))

@@ -1,5 +1,5 @@
 -- One step of one processor, as a grammar over its cycles.
-use Rattle.std.specs.Prelude.{◌==◌, ◌&&◌, ◌||◌, Bool, false, not, bit_and, if◌then◌else◌, Some, None, is_some, List}
+use Rattle.std.specs.Prelude.{◌==◌, ◌&&◌, ◌||◌, Bool, false, not, bit_and, if◌then◌else◌, Option, Some, None, is_some, List}
 use Rattle.m386_base.specs.declared.ask.Ask.{Ask}
 use Rattle.m386_base.specs.declared.fault.Fault.{Fault}
 use Rattle.m386_base.specs.Phrase.{Phrase, Done, either, Judgement, follow}
@@ -40,9 +40,14 @@ faulted p f = record p { pending = Some (event_of f) }
 abbrev pub traced : Proc → Proc → Proc
 traced before after = if trap_flag before then record after { pending = Some (record { vector = 1; code = None; cause = Exception }) } else after
 
--- an instruction, with its fault or its trap pending afterwards
+-- the state behind an instruction that began in a state: with its trap, or with the fault that is seen in the new state
+abbrev pub settled : Proc → Proc → Option Fault → Proc
+settled before after None = traced before after
+settled before after (Some f) = faulted after f
+
+-- An instruction, with its fault or its trap pending afterwards. A fault that leaves no new state is seen in the old one.
 unfoldable pub running_phrase : Proc → Phrase Proc
-running_phrase p = either (instruction_phrase p) (λ after. Done (traced p after)) (λ f. Done (faulted p f))
+running_phrase p = either (instruction_phrase p) (λ r. Done (settled p r.after r.fault)) (λ f. Done (faulted p f))
 
 -- a turn with no event, by mode
 abbrev pub turn_phrase : Mode → Proc → Phrase Proc

@@ -3,7 +3,8 @@ ghost use Rattle.std.specs.Prelude.{◌≡◌, ◌↔◌, ◌⊎◌, ℕ, ◌≤
 ghost use Rattle.m386_base.specs.declared.ask.Ask.{Ask as AskRecord};
 ghost use Rattle.m386_base.specs.declared.fault.Break.TheVariants as breaks;
 ghost use Rattle.m386_base.specs.declared.fault.Fault.{Fault as FaultRecord};
-ghost use Rattle.m386_base.specs.Laws.{AtMost};
+ghost use Rattle.m386_base.specs.Laws.{AtMost, Obeys};
+ghost use Rattle.m386_step.specs.Keeping.{NoSwitch, with_cycle, KeepsTask, AnyFault};
 ghost use Rattle.m386_base.specs.Phrase.{Whole, Faulted, Wants, follow};
 ghost use Rattle.m386_base.specs.Replay.{Found, Lacks, replay};
 ghost use Rattle.m386_state.specs.declared.proc.Proc.{Proc as ProcRecord};
@@ -53,4 +54,10 @@ pub fn decoding_is_the_decoders()
         → (follow (decode_phrase r) ts ≡ Faulted fault rest) ↔ (DecodesTo r ts rest (Err (breaks.Fault fault)) ⊎ WantsByte r ts (Faulted fault rest)) }
     ensures wants { (r : ReaderRecord) (wanted : AskRecord) (ts : List AskRecord)
         → (follow (decode_phrase r) ts ≡ Wants wanted) ↔ WantsByte r ts (Wants wanted) }
+{}
+
+/// A step makes no cycle of a task switch, and keeps TR, and the GDT register but for a cycle of LGDT.
+#[tactic(auto, using(crate::proofs::Keeping::calm_step))]
+pub fn step_keeps_the_task()
+    ensures { (p : ProcRecord) → Obeys NoSwitch with_cycle (KeepsTask p) AnyFault [] (step_phrase p) }
 {}

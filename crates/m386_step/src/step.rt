@@ -2,7 +2,7 @@
 ghost use Rattle.std.specs.Prelude.{◌≡◌, ◌≢◌, ◌+◌, ◌<◌, ◌≤◌, false, [], length, OnOk, OnErr, MatchResult};
 ghost use Rattle.m386_base.specs.declared.ask.Ask.{Ask as AskRecord};
 ghost use Rattle.m386_base.specs.Phrase.{PerformsOrStops, IsJudged, Whole, Wants, SameBus, Stopped, it};
-ghost use Rattle.m386_step.specs.Step.{step_phrase, running_phrase, is_due, without_event, traced, faulted, event_of};
+ghost use Rattle.m386_step.specs.Step.{step_phrase, running_phrase, is_due, without_event, traced, faulted, settled, event_of};
 
 use crate::instruction::instruction;
 use m386_base::bus::Bus;
@@ -67,6 +67,16 @@ fn with_trap(before: &Proc, after: &Proc) -> Proc
     after
 }
 
+/// The state behind an instruction: with its trap, or with the fault that is seen in the new state.
+fn settled(before: &Proc, after: &Proc, fault: Option<Fault>) -> Proc
+    ensures { result ≡ settled before.now after.now fault }
+{
+    match fault {
+        None => with_trap(before, after),
+        Some(fault) => with_fault(after, fault),
+    }
+}
+
 /// One instruction, with its fault or its trap pending afterwards.
 #[tactic(auto, using(m386_base::proofs::Phrases::caught), unfolding(crate::specs::Step::running_phrase))]
 fn run<B: Bus>(p: &Proc, bus: &mut B) -> Result<Proc, Stop>
@@ -75,7 +85,7 @@ fn run<B: Bus>(p: &Proc, bus: &mut B) -> Result<Proc, Stop>
     ensures free { (B.view bus.new).kept ≡ false }
 {
     match instruction(p, bus) {
-        Ok(after) => Ok(with_trap(p, &after)),
+        Ok(ran) => Ok(settled(p, &ran.after, ran.fault)),
         Err(Break::Fault(fault)) => Ok(with_fault(p, fault)),
         Err(Break::Stop(stop)) => Err(stop),
     }

@@ -290,6 +290,88 @@ fn moves_make_their_cycles(rt: HostRuntime) {
 }
 
 #[test]
+fn calculations_make_their_cycles(rt: HostRuntime) {
+    let p = bare();
+    let cases = [
+        Case {
+            name: "ADD [1011h], EAX, split over two groups",
+            before: p,
+            code: &[0x01, 0x05, 0x11, 0x10, 0, 0, 0, 0],
+            cycles: &[
+                fetch(0x1000, 0x1011_0501),
+                fetch(0x1004, 0),
+                read(0, 0x1010, 14, 0x4433_2200),
+                read(3, 0x1014, 1, 0x55),
+                write(0, 0x1010, 14, 0xe5d5_c500),
+                write(3, 0x1014, 1, 0xf5),
+            ],
+            after: flagged(&at(&p, 0x1006), 0x86),
+        },
+        Case {
+            name: "LOCK ADD [1011h], EAX, split over two groups",
+            before: p,
+            code: &[0xf0, 0x01, 0x05, 0x11, 0x10, 0, 0, 0],
+            cycles: &[
+                fetch(0x1000, 0x1105_01f0),
+                fetch(0x1004, 0x10),
+                read(0, 0x1010, 14, 0x4433_2200),
+                joined(read(3, 0x1014, 1, 0x55)),
+                joined(write(0, 0x1010, 14, 0xe5d5_c500)),
+                joined(write(3, 0x1014, 1, 0xf5)),
+            ],
+            after: flagged(&at(&p, 0x1007), 0x86),
+        },
+        Case {
+            name: "ADD AH, [1011h]",
+            before: p,
+            code: &[0x02, 0x25, 0x11, 0x10, 0, 0, 0, 0],
+            cycles: &[
+                fetch(0x1000, 0x1011_2502),
+                fetch(0x1004, 0),
+                read(0, 0x1010, 2, 0x2200),
+            ],
+            after: flagged(&loaded(&p, 0x1006, 0, 0xa0a1_c4a3), 0x82),
+        },
+        Case {
+            name: "ADD [1013h], AX, split over two groups",
+            before: p,
+            code: &[0x66, 0x01, 0x05, 0x13, 0x10, 0, 0, 0],
+            cycles: &[
+                fetch(0x1000, 0x1305_0166),
+                fetch(0x1004, 0x10),
+                read(0, 0x1010, 8, 0x4400_0000),
+                read(1, 0x1014, 1, 0x55),
+                write(0, 0x1010, 8, 0xe700_0000),
+                write(1, 0x1014, 1, 0xf7),
+            ],
+            after: flagged(&at(&p, 0x1007), 0x86),
+        },
+        Case {
+            name: "TEST [1010h], EAX",
+            before: p,
+            code: &[0x85, 0x05, 0x10, 0x10, 0, 0, 0, 0],
+            cycles: &[
+                fetch(0x1000, 0x1010_0585),
+                fetch(0x1004, 0),
+                read(0, 0x1010, 15, 0x4433_2211),
+            ],
+            after: flagged(&at(&p, 0x1006), 2),
+        },
+        Case {
+            name: "LEA EAX, [1011h]",
+            before: p,
+            code: &[0x8d, 0x05, 0x11, 0x10, 0, 0, 0, 0],
+            cycles: &[fetch(0x1000, 0x1011_058d), fetch(0x1004, 0)],
+            after: loaded(&p, 0x1006, 0, 0x1011),
+        },
+    ];
+    for case in &cases {
+        step_over_bytes(&rt, case);
+        step_over_values(&rt, case);
+    }
+}
+
+#[test]
 fn exchange_is_one_locked_group(rt: HostRuntime) {
     let p = bare();
     let cases = [

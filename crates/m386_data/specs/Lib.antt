@@ -1,0 +1,4 @@
+pub mod Calculate
+pub mod Exchange
+pub mod Exec
+pub mod Moves

@@ -1,0 +1,5 @@
+pub mod Exec
+pub mod Halt
+pub mod Jump
+pub mod Trial
+pub mod Work
