@@ -11,7 +11,7 @@ use Rattle.m386_opmap.specs.declared.op.Addr.{Addr}
 use Rattle.m386_state.specs.declared.proc.Proc.{Proc}
 use Rattle.m386_state.specs.Start.{seg_at}
 use Rattle.m386_access.specs.Address.{segment_number, offset_of, may_read, may_write, linear_of, access_fault_of}
-use Rattle.m386_access.specs.Faults.{general_protection_of}
+use Rattle.m386_base.specs.Exceptions.{general_protection_of}
 
 -- the groups of an operand
 abbrev pub memory_pieces : ℕ → ℕ → List Piece

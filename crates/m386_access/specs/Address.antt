@@ -1,19 +1,21 @@
 -- Where an operand in memory lies, and when it may be reached through its segment.
 use Rattle.std.specs.Prelude.{ℕ, ◌+◌, ◌*◌, ◌%◌, ◌^◌, ◌==◌, ◌&&◌, ◌||◌, Bool, Option, Some, None, if◌then◌else◌}
+use Rattle.m386_base.specs.declared.exception.Exception.TheVariants.{StackFault}
 use Rattle.m386_base.specs.declared.fault.Fault.{Fault}
+use Rattle.m386_base.specs.Exceptions.{coded_fault_of, general_protection_of}
+use Rattle.m386_base.specs.Segments.{ss, ds}
 use Rattle.m386_desc.specs.Access.{is_readable, is_writable}
 use Rattle.m386_desc.specs.Offsets.{are_offsets}
 use Rattle.m386_opmap.specs.declared.op.Addr.{Addr}
 use Rattle.m386_state.specs.declared.proc.Proc.{Proc}
 use Rattle.m386_state.specs.declared.segment.Seg.{Seg}
 use Rattle.m386_access.specs.After.{register_of}
-use Rattle.m386_access.specs.Faults.{general_protection_of}
 
 -- SS serves a base of ESP or EBP, and DS all else.
 -- Source: Intel 80386 PRM 2.5.3.2
 abbrev pub default_segment : Option ℕ → ℕ
-default_segment None = 3
-default_segment (Some base) = if (base == 4) || (base == 5) then 2 else 3
+default_segment None = ds
+default_segment (Some base) = if (base == 4) || (base == 5) then ss else ds
 
 -- The segment register of an operand.
 -- Source: Intel 80386 PRM 2.5.3.2
@@ -41,7 +43,7 @@ may_write s offset len = s.usable && is_writable s.desc && are_offsets s.desc of
 
 -- the fault of an access through this segment register
 abbrev pub access_fault_of : ℕ → Fault
-access_fault_of seg = if seg == 2 then record { vector = 12; code = Some 0 } else general_protection_of
+access_fault_of seg = if seg == ss then coded_fault_of StackFault 0 else general_protection_of
 
 -- the linear address of an offset
 abbrev pub linear_of : Seg → ℕ → ℕ

@@ -4,8 +4,9 @@ ghost use Rattle.m386_state.specs.Start.{seg_at};
 ghost use Rattle.m386_access.specs.Address.{default_segment, segment_number, part_of, offset_of, may_read, may_write, access_fault_of, linear_of};
 
 use crate::after::register_of;
-use crate::faults::general_protection;
+use m386_base::exception::{Exception, general_protection};
 use m386_base::fault::Fault;
+use m386_base::segments::{DS, SS};
 use m386_desc::access::kind;
 use m386_desc::offsets::allows;
 use m386_opmap::op::Addr;
@@ -17,8 +18,8 @@ fn default_segment(base: Option<u8>) -> u8
     ensures { result ≡ default_segment base }
 {
     match base {
-        Some(base) => if base == 4 || base == 5 { 2 } else { 3 },
-        None => 3,
+        Some(base) => if base == 4 || base == 5 { SS } else { DS },
+        None => DS,
     }
 }
 
@@ -82,11 +83,8 @@ pub fn may_write(s: &Seg, offset: u32, len: u8) -> bool
 pub fn access_fault(seg: u8) -> Fault
     ensures { result ≡ access_fault_of seg }
 {
-    if seg == 2 {
-        Fault {
-            vector: 12,
-            code: Some(0),
-        }
+    if seg == SS {
+        Exception::StackFault.coded_fault(0)
     } else {
         general_protection()
     }

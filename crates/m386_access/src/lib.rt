@@ -4,6 +4,5 @@
 pub mod access;
 pub mod address;
 pub mod after;
-pub mod faults;
 pub mod operands;
 pub mod ran;

@@ -3,8 +3,8 @@ use Rattle.std.specs.Prelude.{ℕ, true, false, not}
 use Rattle.m386_base.specs.declared.number.Flags.{Flags}
 use Rattle.m386_alu.specs.declared.bit_tests.BitOp.{BitOp}
 use Rattle.m386_alu.specs.declared.bit_tests.BitOp.TheVariants.{Test, Set, Reset, Complement}
-use Rattle.m386_alu.specs.declared.flags.Flag.TheVariants.{Carry}
-use Rattle.m386_alu.specs.Flags.{has_bit, put_bit, with_flag}
+use Rattle.m386_base.specs.declared.flags.Flag.TheVariants.{Carry}
+use Rattle.m386_base.specs.Flags.{has_bit, put_bit, with_flag}
 
 -- The number after a test of bit k: the same, or with that bit 1, 0 or the other value.
 -- Source: Intel 80386 PRM 3.4.2

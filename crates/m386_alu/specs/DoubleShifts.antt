@@ -3,8 +3,9 @@ use Rattle.std.specs.Prelude.{ℕ, ◌+◌, ◌*◌, ◌/◌, ◌%◌, ◌^◌, 
 use Rattle.m386_base.specs.declared.number.Flags.{Flags}
 use Rattle.m386_base.specs.declared.number.Width.{Width}
 use Rattle.m386_alu.specs.declared.shifts.ShiftOp.TheVariants.{Shl, Shr}
-use Rattle.m386_alu.specs.declared.flags.Flag.TheVariants.{Carry}
-use Rattle.m386_alu.specs.Flags.{with_flag, with_result}
+use Rattle.m386_base.specs.declared.flags.Flag.TheVariants.{Carry}
+use Rattle.m386_base.specs.Flags.{with_flag}
+use Rattle.m386_alu.specs.Flags.{with_result}
 use Rattle.m386_alu.specs.Shifts.{shifted, with_sign_change}
 use Rattle.m386_alu.specs.Width.{bits}
 

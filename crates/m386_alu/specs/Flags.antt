@@ -1,32 +1,10 @@
--- The arithmetic flags, as bits of the flags register, and what three of them say of every result.
-use Rattle.std.specs.Prelude.{◌≡◌, ℕ, ◌+◌, ◌*◌, ◌/◌, ◌%◌, ◌^◌, Bool, ◌==◌, if◌then◌else◌, count_ones}
+-- CF as a number, and what three flags say of every result.
+use Rattle.std.specs.Prelude.{◌≡◌, ℕ, ◌/◌, ◌%◌, ◌^◌, ◌==◌, count_ones}
 use Rattle.m386_base.specs.declared.number.Flags.{Flags}
 use Rattle.m386_base.specs.declared.number.Width.{Width}
-use Rattle.m386_alu.specs.declared.flags.Flag.{Flag}
-use Rattle.m386_alu.specs.declared.flags.Flag.TheVariants.{Carry, Parity, Adjust, Zero, Sign, Overflow}
+use Rattle.m386_base.specs.declared.flags.Flag.TheVariants.{Parity, Zero, Sign}
+use Rattle.m386_base.specs.Flags.{with_flag}
 use Rattle.m386_alu.specs.Width.{bits, is_negative}
-
--- The place of a flag in the flags register.
--- Source: Intel 80386 PRM 2.3.4.1
-abbrev pub place : Flag → ℕ
-place Carry = 0
-place Parity = 2
-place Adjust = 4
-place Zero = 6
-place Sign = 7
-place Overflow = 11
-
--- whether bit k of a number is 1
-abbrev pub has_bit : ℕ → ℕ → Bool
-has_bit n k = n / 2 ^ k % 2 == 1
-
--- a number with bit k put to a value: the bits above it, the bit, and the bits below it
-unfoldable pub put_bit : ℕ → ℕ → Bool → ℕ
-put_bit n k b = n / 2 ^ (k + 1) * 2 ^ (k + 1) + (if b then 2 ^ k else 0) + n % 2 ^ k
-
--- the flags register with one flag put to a value
-unfoldable pub with_flag : Flag → Bool → Flags → Flags
-with_flag flag b f = record { 0 = put_bit f.0 (place flag) b }
 
 -- the carry flag as a number, 0 or 1
 abbrev pub carry_of : Flags → ℕ

@@ -2,8 +2,8 @@
 use Rattle.std.specs.Prelude.{ℕ, ◌+◌, ◌-◌, ◌*◌, ◌/◌, ◌%◌, ◌^◌, ◌*ℤ◌, Bool, true, false, not, ◌==◌, if◌then◌else◌}
 use Rattle.m386_base.specs.declared.number.Flags.{Flags}
 use Rattle.m386_base.specs.declared.number.Width.{Width}
-use Rattle.m386_alu.specs.declared.flags.Flag.TheVariants.{Carry, Overflow}
-use Rattle.m386_alu.specs.Flags.{with_flag}
+use Rattle.m386_base.specs.declared.flags.Flag.TheVariants.{Carry, Overflow}
+use Rattle.m386_base.specs.Flags.{with_flag}
 use Rattle.m386_alu.specs.Signs.{modulo}
 use Rattle.m386_alu.specs.Width.{bits, is_negative, signed}
 

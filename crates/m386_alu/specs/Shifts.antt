@@ -4,8 +4,9 @@ use Rattle.m386_base.specs.declared.number.Flags.{Flags}
 use Rattle.m386_base.specs.declared.number.Width.{Width}
 use Rattle.m386_alu.specs.declared.shifts.ShiftOp.{ShiftOp}
 use Rattle.m386_alu.specs.declared.shifts.ShiftOp.TheVariants.{Rol, Ror, Rcl, Rcr, Shl, Shr, Sar}
-use Rattle.m386_alu.specs.declared.flags.Flag.TheVariants.{Carry, Overflow}
-use Rattle.m386_alu.specs.Flags.{carry_of, with_flag, with_result}
+use Rattle.m386_base.specs.declared.flags.Flag.TheVariants.{Carry, Overflow}
+use Rattle.m386_base.specs.Flags.{with_flag}
+use Rattle.m386_alu.specs.Flags.{carry_of, with_result}
 use Rattle.m386_alu.specs.Width.{bits, is_negative}
 
 -- a change made n times over

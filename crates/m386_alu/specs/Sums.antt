@@ -2,8 +2,9 @@
 use Rattle.std.specs.Prelude.{ℕ, ◌+◌, ◌-◌, ◌%◌, ◌^◌, pos, ◌+ℤ◌, ◌-ℤ◌, not, nat_le, nat_lt}
 use Rattle.m386_base.specs.declared.number.Flags.{Flags}
 use Rattle.m386_base.specs.declared.number.Width.{Width}
-use Rattle.m386_alu.specs.declared.flags.Flag.TheVariants.{Carry, Adjust, Overflow}
-use Rattle.m386_alu.specs.Flags.{with_flag, with_result}
+use Rattle.m386_base.specs.declared.flags.Flag.TheVariants.{Carry, Adjust, Overflow}
+use Rattle.m386_base.specs.Flags.{with_flag}
+use Rattle.m386_alu.specs.Flags.{with_result}
 use Rattle.m386_alu.specs.Width.{bits, signed, is_signed_number}
 
 -- A sum with a carry of 0 or 1, and the flags after it: CF says that the sum reaches 2^w, AF that the sum of the low four

@@ -4,7 +4,7 @@ ghost use Rattle.m386_alu.specs.BitTests.{tested, bit_test_of};
 ghost use Rattle.m386_alu.specs.Flags.{KeepsOthers};
 ghost use Rattle.m386_alu.specs.Width.{bits};
 
-use crate::flags::{Flag, put_flag};
+use m386_base::flags::{Flag, put_flag};
 use m386_base::number::{Flags, Width};
 
 /// What a bit test does to the bit.
@@ -36,7 +36,7 @@ fn change(op: BitOp, number: u32, bit: u8) -> u32
 
 /// A number of a width after a test of the bit at this place, and the flags after it: CF is the bit as it was
 /// (PRM 3.4.2). All other flags stay (own choice). It takes no memory.
-#[tactic(auto, using(crate::proofs::BitPlaces::tested_fits))]
+#[tactic(auto, using(crate::proofs::Tested::tested_fits))]
 pub fn bits(op: BitOp, width: Width, a: u32, bit: u8, flags: Flags) -> (u32, Flags)
     requires a_fits { a < 2 ^ bits width }
     requires inside { bit < bits width }

@@ -4,7 +4,8 @@ ghost use Rattle.m386_alu.specs.DoubleShifts.{shifted_left_into, shifted_right_i
 ghost use Rattle.m386_alu.specs.Flags.{KeepsOthers};
 ghost use Rattle.m386_alu.specs.Width.{bits};
 
-use crate::flags::{Flag, put_flag, put_result};
+use crate::flags::put_result;
+use m386_base::flags::{Flag, put_flag};
 use crate::shifts::put_sign_change;
 use crate::width::{bits_of, double, max_of};
 use m386_base::number::{Flags, Width};

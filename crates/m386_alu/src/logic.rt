@@ -2,7 +2,8 @@
 ghost use Rattle.std.specs.Prelude.{◌≡◌};
 ghost use Rattle.m386_alu.specs.Logic.{logic_of};
 
-use crate::flags::{Flag, put_flag, put_result};
+use crate::flags::put_result;
+use m386_base::flags::{Flag, put_flag};
 use m386_base::number::{Flags, Width};
 
 /// A result of AND, OR or XOR, and the flags after it (PRM 3.4.1). AF is 0 (own choice).

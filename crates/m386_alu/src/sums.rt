@@ -3,7 +3,8 @@ ghost use Rattle.std.specs.Prelude.{◌≡◌, ◌+◌, ◌-◌, ◌/◌, ◌%�
 ghost use Rattle.m386_alu.specs.Sums.{sum_of, difference_of};
 ghost use Rattle.m386_alu.specs.Width.{bits, signed, is_signed_number};
 
-use crate::flags::{Flag, put_flag, put_result};
+use crate::flags::put_result;
+use m386_base::flags::{Flag, put_flag};
 use crate::width::{has_sign, max_of};
 use m386_base::number::{Flags, Width};
 

@@ -1,4 +1,5 @@
 pub mod Access
+pub mod BitPlaces
 pub mod Bounds
 pub mod Descriptors
 pub mod Finite

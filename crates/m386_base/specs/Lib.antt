@@ -1,8 +1,11 @@
 pub mod Bus
 pub mod Bytes
 pub mod Descriptor
+pub mod Exceptions
+pub mod Flags
 pub mod Laws
 pub mod Phrase
 pub mod Plain
 pub mod Replay
+pub mod Segments
 pub mod Split

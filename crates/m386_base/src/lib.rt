@@ -5,12 +5,15 @@
 pub mod ask;
 pub mod bus;
 pub mod desc;
+pub mod exception;
 pub mod fault;
+pub mod flags;
 pub mod kind;
 pub mod laws;
 pub mod list;
 pub mod number;
 pub mod probe;
+pub mod segments;
 pub mod split;
 #[cfg(test)]
 mod tests;

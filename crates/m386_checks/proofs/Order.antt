@@ -4,7 +4,7 @@ use Rattle.std.proofs.lemmas.List.{drop_all}
 use Rattle.m386_checks.specs.declared.facts.Context.TheVariants.{Old}
 use Rattle.m386_checks.specs.declared.facts.Fail.{Fail}
 use Rattle.m386_checks.specs.declared.facts.Facts.{Facts}
-use Rattle.m386_checks.specs.declared.table.Exception.TheVariants as raises
+use Rattle.m386_checks.specs.declared.table.Raises.TheVariants as raises
 use Rattle.m386_checks.specs.declared.table.Row.{Row}
 use Rattle.m386_checks.specs.declared.table.Subject.TheVariants as names
 use Rattle.m386_checks.specs.declared.table.Test.TheVariants as tests

@@ -1,5 +1,6 @@
 -- The order of the checks, and the first that fails.
 use Rattle.std.specs.Prelude.{ℕ, List, [], ◌∷◌, ◌++◌, map, slice_range, if◌then◌else◌, nat_le, IsTrue, Option, Some, None}
+use Rattle.m386_base.specs.Segments.{es, ds, fs, gs}
 use Rattle.m386_checks.specs.declared.facts.Context.{Context}
 use Rattle.m386_checks.specs.declared.facts.Context.TheVariants.{Old, New}
 use Rattle.m386_checks.specs.declared.facts.Fail.{Fail}
@@ -20,7 +21,7 @@ for_segments (seg ∷ segs) rows = for_segment seg rows ++ for_segments segs row
 -- The data segment registers in the order of their tests: DS, ES, FS, GS.
 -- Own choice: docs/DECISIONS.md, "The check table of a task switch"
 abbrev pub data_segments : List ℕ
-data_segments = 3 ∷ 0 ∷ 4 ∷ 5 ∷ []
+data_segments = ds ∷ es ∷ fs ∷ gs ∷ []
 
 -- The rows in the order of their tests: 1 to 15, then 16 to 18 for each data segment register, then 19.
 -- Own choice: docs/DECISIONS.md, "The check table of a task switch"

@@ -3,6 +3,7 @@ use Rattle.std.specs.Prelude.{ℕ, Bool, true, false, not, ◌&&◌, ◌||◌, �
 use Rattle.m386_base.specs.declared.desc.Desc.{Desc}
 use Rattle.m386_desc.specs.declared.kind.Kind.{Kind}
 use Rattle.m386_desc.specs.declared.kind.Kind.TheVariants as kinds
+use Rattle.m386_base.specs.Segments.{cs, ss}
 use Rattle.m386_desc.specs.Access.{dpl_of, is_present, is_code_32, is_conforming, is_readable, is_writable, kind_of}
 use Rattle.m386_desc.specs.Offsets.{limit_of, are_offsets}
 use Rattle.m386_desc.specs.Selector.{rpl_of, names_ldt, is_null_selector}
@@ -22,7 +23,7 @@ descriptor_at f seg = slice_index_or f.seg_descs seg None
 
 -- the new task's privilege level: the RPL of its CS
 abbrev pub new_cpl : Facts → ℕ
-new_cpl f = rpl_of (selector_at f 1)
+new_cpl f = rpl_of (selector_at f cs)
 
 -- the descriptor was read, and passes
 abbrev pub given : Option Desc → (Desc → Bool) → Bool
@@ -102,14 +103,14 @@ test_holds tests.TssPresent f seg = given f.tss is_present
 test_holds tests.TssLimit f seg = given f.tss has_all_fields
 test_holds tests.LdtInGdt f seg = is_null_selector f.ldt || (not (names_ldt f.ldt) && given f.ldt_desc is_ldt)
 test_holds tests.LdtPresent f seg = is_null_selector f.ldt || given f.ldt_desc is_present
-test_holds tests.CsCode f seg = not (is_null_selector (selector_at f 1)) && given (descriptor_at f 1) is_code_32
-test_holds tests.CsPrivilege f seg = given (descriptor_at f 1) (runs_at (rpl_of (selector_at f 1)))
-test_holds tests.CsPresent f seg = given (descriptor_at f 1) is_present
-test_holds tests.SsWritable f seg = not (is_null_selector (selector_at f 2)) && given (descriptor_at f 2) is_writable
-test_holds tests.SsPrivilege f seg = rpl_of (selector_at f 2) == new_cpl f && given (descriptor_at f 2) (has_level (new_cpl f))
-test_holds tests.SsPresent f seg = given (descriptor_at f 2) is_present
+test_holds tests.CsCode f seg = not (is_null_selector (selector_at f cs)) && given (descriptor_at f cs) is_code_32
+test_holds tests.CsPrivilege f seg = given (descriptor_at f cs) (runs_at (rpl_of (selector_at f cs)))
+test_holds tests.CsPresent f seg = given (descriptor_at f cs) is_present
+test_holds tests.SsWritable f seg = not (is_null_selector (selector_at f ss)) && given (descriptor_at f ss) is_writable
+test_holds tests.SsPrivilege f seg = rpl_of (selector_at f ss) == new_cpl f && given (descriptor_at f ss) (has_level (new_cpl f))
+test_holds tests.SsPresent f seg = given (descriptor_at f ss) is_present
 test_holds tests.DataReadable f seg = is_null_selector (selector_at f seg) || given (descriptor_at f seg) is_readable
 test_holds tests.DataPrivilege f seg =
     is_null_selector (selector_at f seg) || given (descriptor_at f seg) (may_be_data_from (new_cpl f) (rpl_of (selector_at f seg)))
 test_holds tests.DataPresent f seg = is_null_selector (selector_at f seg) || given (descriptor_at f seg) is_present
-test_holds tests.EipInLimit f seg = given (descriptor_at f 1) (holds_offset f.eip)
+test_holds tests.EipInLimit f seg = given (descriptor_at f cs) (holds_offset f.eip)

@@ -7,8 +7,12 @@ use Rattle.m386_checks.specs.declared.facts.Fail.{Fail}
 use Rattle.m386_checks.specs.declared.facts.Facts.{Facts}
 use Rattle.m386_base.specs.declared.kind.SwitchKind.{SwitchKind}
 use Rattle.m386_base.specs.declared.kind.SwitchKind.TheVariants as switches
-use Rattle.m386_checks.specs.declared.table.Exception.{Exception}
-use Rattle.m386_checks.specs.declared.table.Exception.TheVariants as raises
+use Rattle.m386_base.specs.declared.exception.Exception.{Exception}
+use Rattle.m386_base.specs.declared.exception.Exception.TheVariants as exceptions
+use Rattle.m386_base.specs.Exceptions.{coded_fault_of}
+use Rattle.m386_base.specs.Segments.{cs, ss}
+use Rattle.m386_checks.specs.declared.table.Raises.{Raises}
+use Rattle.m386_checks.specs.declared.table.Raises.TheVariants as raises
 use Rattle.m386_checks.specs.declared.table.Row.{Row}
 use Rattle.m386_checks.specs.declared.table.Subject.{Subject}
 use Rattle.m386_checks.specs.declared.table.Subject.TheVariants as names
@@ -16,7 +20,7 @@ use Rattle.m386_checks.specs.declared.table.Test.{Test}
 use Rattle.m386_checks.specs.declared.table.Test.TheVariants as tests
 use Rattle.m386_checks.specs.Holds.{selector_at}
 
-abbrev pub row : ℕ → Test → Exception → Subject → Context → Row
+abbrev pub row : ℕ → Test → Raises → Subject → Context → Row
 row number test exception subject context =
     record { number = number; test = test; exception = exception; subject = subject; context = context }
 
@@ -45,29 +49,29 @@ check_table =
     ∷ row 19 tests.EipInLimit raises.Gp names.Nothing New ∷ []
 
 -- the exception where it depends on what makes the switch
-abbrev pub vector_by_kind : SwitchKind → ℕ
-vector_by_kind switches.Jmp = 13
-vector_by_kind switches.Call = 13
-vector_by_kind switches.Event = 10
-vector_by_kind switches.Iret = 10
-vector_by_kind switches.Start = 10
+abbrev pub exception_by_kind : SwitchKind → Exception
+exception_by_kind switches.Jmp = exceptions.GeneralProtection
+exception_by_kind switches.Call = exceptions.GeneralProtection
+exception_by_kind switches.Event = exceptions.InvalidTss
+exception_by_kind switches.Iret = exceptions.InvalidTss
+exception_by_kind switches.Start = exceptions.InvalidTss
 
--- The vector of an exception.
--- Source: Intel 80386 PRM 9.8
-abbrev pub vector_of : Exception → SwitchKind → ℕ
-vector_of raises.Ts kind = 10
-vector_of raises.Np kind = 11
-vector_of raises.Ss kind = 12
-vector_of raises.Gp kind = 13
-vector_of raises.ByKind kind = vector_by_kind kind
+-- The exception that a row raises.
+-- Source: Intel 80386 PRM 7.5; the column: docs/DECISIONS.md, "The check table of a task switch"
+abbrev pub exception_of : Raises → SwitchKind → Exception
+exception_of raises.Ts kind = exceptions.InvalidTss
+exception_of raises.Np kind = exceptions.SegmentNotPresent
+exception_of raises.Ss kind = exceptions.StackFault
+exception_of raises.Gp kind = exceptions.GeneralProtection
+exception_of raises.ByKind kind = exception_by_kind kind
 
 -- the segment register that a row speaks of, where `turn` is the data segment register whose turn it is
 abbrev pub seg_of : Subject → ℕ → ℕ
 seg_of names.Nothing turn = 0
 seg_of names.Tss turn = 0
 seg_of names.Ldt turn = 0
-seg_of names.Cs turn = 1
-seg_of names.Ss turn = 2
+seg_of names.Cs turn = cs
+seg_of names.Ss turn = ss
 seg_of names.Data turn = turn
 
 -- The error code: it names the selector that the row speaks of, and has EXT as bit 0. Where it names none it is 0.
@@ -76,8 +80,8 @@ abbrev pub error_code_of : Subject → Facts → ℕ → ℕ
 error_code_of names.Nothing f turn = 0
 error_code_of names.Tss f turn = code_of f.selector f.ext
 error_code_of names.Ldt f turn = code_of f.ldt f.ext
-error_code_of names.Cs f turn = code_of (selector_at f 1) f.ext
-error_code_of names.Ss f turn = code_of (selector_at f 2) f.ext
+error_code_of names.Cs f turn = code_of (selector_at f cs) f.ext
+error_code_of names.Ss f turn = code_of (selector_at f ss) f.ext
 error_code_of names.Data f turn = code_of (selector_at f turn) f.ext
 
 -- how a row fails
@@ -85,6 +89,6 @@ abbrev pub fail_of : Facts → Row → ℕ → Fail
 fail_of f row turn = record {
   row = row.number;
   seg = seg_of row.subject turn;
-  fault = record { vector = vector_of row.exception f.kind; code = Some (error_code_of row.subject f turn) };
+  fault = coded_fault_of (exception_of row.exception f.kind) (error_code_of row.subject f turn);
   context = row.context;
 }

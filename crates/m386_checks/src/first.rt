@@ -1,17 +1,18 @@
 //! The first check of a task switch that fails.
 ghost use Rattle.std.specs.Prelude.{◌≡◌, ◌<◌, ◌↔◌, IsNone, IfSome, OnSome, length};
 ghost use Rattle.m386_checks.specs.First.{AllChecksHold, context_of, first_false, first_fail_of, old_fail_of, for_segment, for_segments, data_segments, in_order};
-ghost use Rattle.m386_checks.specs.Table.{vector_of, error_code_of, seg_of, fail_of};
+ghost use Rattle.m386_checks.specs.Table.{exception_of, error_code_of, seg_of, fail_of};
 
 use crate::facts::{Facts, Fail};
+use m386_base::exception::Exception;
 use m386_base::kind::SwitchKind;
-use crate::holds::{CS, SS, holds, selector};
-use crate::table::{Exception, ROWS, Row, Subject};
-use m386_base::fault::Fault;
+use crate::holds::{holds, selector};
+use crate::table::{ROWS, Raises, Row, Subject};
+use m386_base::segments::{CS, DS, ES, FS, GS, SS};
 use m386_desc::selector::error_code;
 
 /// The data segment registers in the order in which they are checked: DS, ES, FS, GS.
-const DATA_SEGMENTS: [u8; 4] = [3, 0, 4, 5];
+const DATA_SEGMENTS: [u8; 4] = [DS, ES, FS, GS];
 
 /// The first check that fails, in the order 1 to 15, then 16 to 18 for DS, ES, FS and GS in turn, then 19. `None` exactly
 /// where all hold (PRM 7.5).
@@ -83,10 +84,7 @@ fn failed(row: Row, facts: &Facts, seg: u8) -> Fail
     Fail {
         row: row.number,
         seg: segment(row.subject, seg),
-        fault: Fault {
-            vector: vector(row.exception, facts.kind),
-            code: Some(code(row.subject, facts, seg)),
-        },
+        fault: exception(row.exception, facts.kind).coded_fault(code(row.subject, facts, seg)),
         context: row.context,
     }
 }
@@ -103,18 +101,18 @@ fn segment(subject: Subject, seg: u8) -> u8
     }
 }
 
-/// The vector of an exception.
-fn vector(exception: Exception, kind: SwitchKind) -> u8
-    ensures { result ≡ vector_of exception kind }
+/// The exception that a row raises.
+fn exception(raises: Raises, kind: SwitchKind) -> Exception
+    ensures { result ≡ exception_of raises kind }
 {
-    match exception {
-        Exception::Ts => 10,
-        Exception::Np => 11,
-        Exception::Ss => 12,
-        Exception::Gp => 13,
-        Exception::ByKind => match kind {
-            SwitchKind::Jmp | SwitchKind::Call => 13,
-            SwitchKind::Event | SwitchKind::Iret | SwitchKind::Start => 10,
+    match raises {
+        Raises::Ts => Exception::InvalidTss,
+        Raises::Np => Exception::SegmentNotPresent,
+        Raises::Ss => Exception::StackFault,
+        Raises::Gp => Exception::GeneralProtection,
+        Raises::ByKind => match kind {
+            SwitchKind::Jmp | SwitchKind::Call => Exception::GeneralProtection,
+            SwitchKind::Event | SwitchKind::Iret | SwitchKind::Start => Exception::InvalidTss,
         },
     }
 }

@@ -7,15 +7,11 @@ use crate::facts::Facts;
 use m386_base::kind::SwitchKind;
 use crate::table::Test;
 use m386_base::desc::Desc;
+use m386_base::segments::{CS, SS};
 use m386_desc::access::{code_32, dpl, kind, present};
 use m386_desc::kind::Kind;
 use m386_desc::offsets::{allows, limit};
 use m386_desc::selector::{in_ldt, is_null, rpl};
-
-/// The number of CS among the segment registers.
-pub const CS: u8 = 1;
-/// The number of SS among the segment registers.
-pub const SS: u8 = 2;
 
 /// Whether a test holds of these facts. `seg` is the number of the data segment register whose turn it is.
 #[tactic(auto, unfolding(crate::specs::Holds::test_holds))]

@@ -49,14 +49,14 @@ pub enum Test {
 
 /// The exception that a row raises.
 #[derive(Clone, Copy, Debug, PartialEq, Eq)]
-pub enum Exception {
-    /// Invalid TSS, vector 10.
+pub enum Raises {
+    /// Invalid TSS.
     Ts,
-    /// Segment not present, vector 11.
+    /// Segment not present.
     Np,
-    /// Stack exception, vector 12.
+    /// Stack exception.
     Ss,
-    /// General protection, vector 13.
+    /// General protection.
     Gp,
     /// General protection for JMP and CALL, and invalid TSS for all else.
     ByKind,
@@ -87,7 +87,7 @@ pub struct Row {
     /// What it tests.
     pub test: Test,
     /// The exception that it raises where the test is false.
-    pub exception: Exception,
+    pub exception: Raises,
     /// The selector that the error code names.
     pub subject: Subject,
     /// The task in which the exception is raised.
@@ -99,7 +99,7 @@ macro_rules! rows {
         [$(Row {
             number: $number,
             test: Test::$test,
-            exception: Exception::$exception,
+            exception: Raises::$exception,
             subject: Subject::$subject,
             context: Context::$context,
         }),*]

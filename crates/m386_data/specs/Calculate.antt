@@ -16,7 +16,7 @@ use Rattle.m386_state.specs.Start.{seg_at}
 use Rattle.m386_access.specs.Access.{memory_pieces, reads, writes, read_at_phrase}
 use Rattle.m386_access.specs.Address.{segment_number, offset_of, may_write, linear_of, access_fault_of}
 use Rattle.m386_access.specs.After.{len_of, register_at, with_register_at}
-use Rattle.m386_access.specs.Faults.{undefined_opcode_of}
+use Rattle.m386_base.specs.Exceptions.{undefined_opcode_of}
 use Rattle.m386_access.specs.Operands.{value_at}
 use Rattle.m386_access.specs.declared.operands.Operands.{Operands}
 use Rattle.m386_access.specs.declared.operands.Operands.TheVariants.{ToRegister, FromMemory, ToMemory, Others}

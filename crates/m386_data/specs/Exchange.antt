@@ -10,7 +10,7 @@ use Rattle.m386_state.specs.Start.{seg_at}
 use Rattle.m386_access.specs.Access.{memory_pieces, read_ask, write_ask}
 use Rattle.m386_access.specs.Address.{segment_number, offset_of, may_write, linear_of, access_fault_of}
 use Rattle.m386_access.specs.After.{with_register, register_of}
-use Rattle.m386_access.specs.Faults.{undefined_opcode_of}
+use Rattle.m386_base.specs.Exceptions.{undefined_opcode_of}
 use Rattle.m386_access.specs.declared.operands.Source.TheVariants.{Register, Number}
 use Rattle.m386_access.specs.declared.operands.Operands.{Operands}
 use Rattle.m386_access.specs.declared.operands.Operands.TheVariants.{ToRegister, FromMemory, ToMemory, Others}

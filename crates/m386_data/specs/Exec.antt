@@ -4,7 +4,7 @@ use Rattle.m386_base.specs.Phrase.{Phrase, Faults}
 use Rattle.m386_base.specs.declared.number.Width.{Width}
 use Rattle.m386_opmap.specs.declared.op.Op.{Op}
 use Rattle.m386_state.specs.declared.proc.Proc.{Proc}
-use Rattle.m386_access.specs.Faults.{undefined_opcode_of}
+use Rattle.m386_base.specs.Exceptions.{undefined_opcode_of}
 use Rattle.m386_access.specs.Operands.{operands_of, wide_of}
 use Rattle.m386_access.specs.declared.operands.Operands.{Operands}
 use Rattle.m386_data.specs.Calculate.{calculation_of, calculation_phrase}

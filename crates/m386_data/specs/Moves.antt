@@ -10,7 +10,7 @@ use Rattle.m386_state.specs.Start.{seg_at}
 use Rattle.m386_access.specs.Access.{memory_pieces, writes, read_at_phrase, write_at_phrase}
 use Rattle.m386_access.specs.Address.{offset_of}
 use Rattle.m386_access.specs.After.{with_register}
-use Rattle.m386_access.specs.Faults.{undefined_opcode_of}
+use Rattle.m386_base.specs.Exceptions.{undefined_opcode_of}
 use Rattle.m386_access.specs.Operands.{value_of}
 use Rattle.m386_access.specs.declared.operands.Source.{Source}
 use Rattle.m386_access.specs.declared.operands.Operands.{Operands}

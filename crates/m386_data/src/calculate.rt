@@ -8,7 +8,7 @@ use crate::exchange::{read_locked, write_locked};
 use m386_access::access::{read_at, read_groups, write_groups};
 use m386_access::address::{access_fault, linear, may_write, offset, segment, segment_number};
 use m386_access::after::{len_of, register_at, with_register_at};
-use m386_access::faults::undefined_opcode;
+use m386_base::exception::undefined_opcode;
 use m386_access::operands::{Operands, value_at};
 use m386_alu::arithmetic::{AluOp, alu};
 use m386_base::ask::{Role, Space};

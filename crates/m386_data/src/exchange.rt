@@ -7,7 +7,7 @@ ghost use Rattle.m386_data.specs.Exchange.{locked_reads, locked_writes, swap_phr
 
 use m386_access::address::{access_fault, linear, may_write, offset, segment, segment_number};
 use m386_access::after::{register_of, with_register};
-use m386_access::faults::undefined_opcode;
+use m386_base::exception::undefined_opcode;
 use m386_access::operands::{Operands, Source};
 use m386_base::ask::{Ask, Role, Space};
 use m386_base::bus::{Bus, cycle_or_fault};

@@ -5,7 +5,7 @@ ghost use Rattle.m386_data.specs.Exec.{takes, exec_phrase, group_phrase};
 
 use crate::calculate::{Calculation, calculation_of, perform_calculation};
 use crate::moves::{Moves, moves_of, perform_moves};
-use m386_access::faults::undefined_opcode;
+use m386_base::exception::undefined_opcode;
 use m386_access::operands::{Operands, operands_of, wide_of};
 use m386_base::bus::Bus;
 use m386_base::fault::Break;

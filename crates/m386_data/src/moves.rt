@@ -7,7 +7,7 @@ use crate::exchange::exchange;
 use m386_access::access::{read_at, write_at};
 use m386_access::address::offset;
 use m386_access::after::with_register;
-use m386_access::faults::undefined_opcode;
+use m386_base::exception::undefined_opcode;
 use m386_access::operands::{Operands, value_of};
 use m386_base::bus::Bus;
 use m386_base::fault::Break;

@@ -9,7 +9,9 @@ use Rattle.m386_opmap.specs.Spelling.{IsReadingOf}
 use Rattle.m386_opmap.proofs.Laws.{reading_is}
 use Rattle.m386_opmap.proofs.Sound.{AreBytes, front_bytes}
 use Rattle.m386_decode.specs.declared.decoded.Decoded.{Decoded}
-use Rattle.m386_decode.specs.Decoding.{WantsMore, Concludes, IsAnswered, undefined_opcode_of, general_protection_of}
+use Rattle.m386_decode.specs.Decoding.{WantsMore, Concludes, IsAnswered}
+use Rattle.m386_base.specs.declared.fault.Break.TheVariants as breaks
+use Rattle.m386_base.specs.Exceptions.{undefined_opcode_of, general_protection_of}
 use Rattle.m386_decode.proofs.Concluding.{wants_nothing, spelled_whole, refused_at_last}
 
 -- some answer comes behind the bytes
@@ -22,7 +24,7 @@ one_more : (front : List ℕ) (b : ℕ) (x : Reading) → WantsMore front → le
 one_more front b (Spelled op len) wants few said =
     let d : Decoded = record { op = op; len = len } in
     inl (Ok d, (few, spelled_whole front b (front ++ b ∷ []) op len refl wants said))
-one_more front b (Refused at) wants few said = inl (Err undefined_opcode_of, inl (few, refused_at_last front b (front ++ b ∷ []) at refl wants said, refl))
+one_more front b (Refused at) wants few said = inl (Err (breaks.Fault undefined_opcode_of), inl (few, refused_at_last front b (front ++ b ∷ []) at refl wants said, refl))
 one_more front b More wants few said = inr said
 
 -- some front of the bytes has an answer
@@ -32,7 +34,7 @@ AnswerAmong bytes = (answer : Result Decoded Break) × IsAnswered bytes answer
 answer_among : (front rest : List ℕ) → WantsMore front → AreBytes (front ++ rest) → length (front ++ rest) ≡ 15 → AnswerAmong (front ++ rest)
 answer_among front [] wants are size =
     let whole : length front ≡ 15 = ap length (sym (append-nil front)) ∙ size in
-    (Err general_protection_of, record { front = front; rest = []; parts = refl; concludes = inr (whole, wants, refl) })
+    (Err (breaks.Fault general_protection_of), record { front = front; rest = []; parts = refl; concludes = inr (whole, wants, refl) })
 answer_among front (b ∷ rest) wants are size =
     let join : (front ++ b ∷ []) ++ rest ≡ front ++ b ∷ rest = append_assoc front (b ∷ []) rest in
     let P : List ℕ → Type 0 = AreBytes in

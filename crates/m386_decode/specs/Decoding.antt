@@ -2,18 +2,9 @@
 use Rattle.std.specs.Prelude.{ℕ, ◌≡◌, ◌<◌, ◌≤◌, List, [], ◌∷◌, ◌++◌, length, Some, None, Result, Ok, Err, ◌⊎◌}
 use Rattle.m386_base.specs.declared.fault.Break.{Break}
 use Rattle.m386_base.specs.declared.fault.Break.TheVariants as breaks
+use Rattle.m386_base.specs.Exceptions.{undefined_opcode_of, general_protection_of}
 use Rattle.m386_opmap.specs.Spelling.{Spells, BeginsSpelling, HasNoSpelling}
 use Rattle.m386_decode.specs.declared.decoded.Decoded.{Decoded}
-
--- The exception for bytes that no operation begins with.
--- Source: Intel 80386 PRM 9.8.6
-abbrev pub undefined_opcode_of : Break
-undefined_opcode_of = breaks.Fault (record { vector = 6; code = None })
-
--- The exception for an instruction of more than 15 bytes.
--- Source: Intel 80386 PRM 9.8.13
-abbrev pub general_protection_of : Break
-general_protection_of = breaks.Fault (record { vector = 13; code = Some 0 })
 
 -- Some spelling begins with these bytes, and none stands at their front.
 -- Own choice: docs/DECISIONS.md, "Where bytes are refused"
@@ -41,8 +32,8 @@ IsDecoded bytes d = (d.len ≡ length bytes) × Spells d.op bytes
 abbrev pub Concludes : List ℕ → Result Decoded Break → Type 0
 Concludes bytes (Ok d) = (length bytes ≤ 15) × IsDecoded bytes d
 Concludes bytes (Err b) =
-    ((length bytes ≤ 15) × IsRefused bytes × (b ≡ undefined_opcode_of))
-    ⊎ ((length bytes ≡ 15) × WantsMore bytes × (b ≡ general_protection_of))
+    ((length bytes ≤ 15) × IsRefused bytes × (b ≡ breaks.Fault undefined_opcode_of))
+    ⊎ ((length bytes ≡ 15) × WantsMore bytes × (b ≡ breaks.Fault general_protection_of))
 
 -- The answer of a decoder's own that comes behind a front of these bytes.
 -- Own choice: docs/DECISIONS.md, "What the decoder answers"

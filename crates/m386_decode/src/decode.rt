@@ -1,36 +1,17 @@
 //! The operation that a source gives next.
 ghost use Rattle.std.specs.Prelude.{◌≡◌, ◌≤◌, ◌<◌, ℕ, List, ◌∷◌, [], ◌++◌, IfOk, IfErr, IfSome, None, length, Ok, Err, ◌⊎◌};
-ghost use Rattle.m386_decode.specs.Decoding.{WantsMore, Concludes, Concluded, BrokenOff, undefined_opcode_of, general_protection_of};
+ghost use Rattle.m386_decode.specs.Decoding.{WantsMore, Concludes, Concluded, BrokenOff};
 
 use crate::decoded::Decoded;
 use crate::source::ByteSource;
 use arrayvec::ArrayVec;
-use m386_base::fault::{Break, Fault};
+use m386_base::exception::{general_protection, undefined_opcode};
+use m386_base::fault::Break;
 use m386_opmap::outcome::Reading;
 use m386_opmap::reading::reading;
 
 /// The most bytes that an instruction has (PRM 9.8.13).
 const MOST: usize = 15;
-
-/// The exception for bytes that no operation begins with (PRM 9.8.6).
-fn undefined_opcode() -> Break
-    ensures { result ≡ undefined_opcode_of }
-{
-    Break::Fault(Fault {
-        vector: 6,
-        code: None,
-    })
-}
-
-/// The exception for an instruction of more than 15 bytes (PRM 9.8.13).
-fn general_protection() -> Break
-    ensures { result ≡ general_protection_of }
-{
-    Break::Fault(Fault {
-        vector: 13,
-        code: Some(0),
-    })
-}
 
 /// What the decoder answers where these bytes came, of which all but the last wanted more; `None` where they want more
 /// too.
@@ -42,7 +23,7 @@ fn conclusion(bytes: &[u8]) -> Option<Result<Decoded, Break>>
 {
     match reading(bytes) {
         Reading::Spelled { op, len } => Some(Ok(Decoded { op, len: len as u8 })),
-        Reading::Refused { .. } => Some(Err(undefined_opcode())),
+        Reading::Refused { .. } => Some(Err(Break::Fault(undefined_opcode()))),
         Reading::More => None,
     }
 }
@@ -64,5 +45,5 @@ pub fn decode<S: ByteSource>(source: &mut S) -> Result<Decoded, Break>
             return answer;
         }
     }
-    Err(general_protection())
+    Err(Break::Fault(general_protection()))
 }

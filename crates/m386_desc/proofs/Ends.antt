@@ -3,7 +3,8 @@ use Rattle.std.proofs.Common.{◌≡◌, ℕ, zero, suc, ◌+◌, ◌-◌, ◌*�
 use Rattle.m386_base.specs.declared.desc.Desc.{Desc}
 use Rattle.m386_desc.specs.declared.kind.Kind.{Kind}
 use Rattle.m386_desc.specs.declared.kind.Kind.TheVariants as kinds
-use Rattle.m386_desc.specs.Access.{has_bit, is_big, kind_of}
+use Rattle.m386_base.specs.Flags.{has_bit}
+use Rattle.m386_desc.specs.Access.{is_big, kind_of}
 use Rattle.m386_desc.specs.Offsets.{limit_of, upper_end, is_offset_of_kind, is_offset, are_offsets}
 
 limit-below : (d : Desc) → limit_of d < 2 ^ 32

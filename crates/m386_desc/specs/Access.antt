@@ -1,13 +1,10 @@
 -- What the access byte and the flags of a descriptor say.
 use Rattle.std.specs.Prelude.{ℕ, ◌/◌, ◌%◌, ◌^◌, Bool, true, false, ◌==◌, ◌&&◌, if◌then◌else◌, List, [], ◌∷◌}
 use Rattle.m386_base.specs.declared.desc.Desc.{Desc}
+use Rattle.m386_base.specs.Flags.{has_bit}
 use Rattle.m386_desc.specs.declared.kind.Kind.{Kind}
 use Rattle.m386_desc.specs.declared.kind.Kind.TheVariants as kinds
 use Rattle.m386_desc.specs.Kind.{is_conforming_kind, is_readable_kind, is_writable_kind}
-
--- bit k of a number is set
-abbrev pub has_bit : ℕ → ℕ → Bool
-has_bit n k = n / 2 ^ k % 2 == 1
 
 -- The privilege level: bits 5 and 6 of the access byte.
 -- Source: Intel 80386 PRM 5.1.1

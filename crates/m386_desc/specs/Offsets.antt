@@ -3,7 +3,8 @@ use Rattle.std.specs.Prelude.{ℕ, zero, suc, ◌+◌, ◌-◌, ◌*◌, ◌^◌
 use Rattle.m386_base.specs.declared.desc.Desc.{Desc}
 use Rattle.m386_desc.specs.declared.kind.Kind.{Kind}
 use Rattle.m386_desc.specs.declared.kind.Kind.TheVariants as kinds
-use Rattle.m386_desc.specs.Access.{has_bit, is_big, kind_of}
+use Rattle.m386_base.specs.Flags.{has_bit}
+use Rattle.m386_desc.specs.Access.{is_big, kind_of}
 
 -- The limit in bytes. Where G is set, bit 7 of byte 6, the limit counts pages of 4,096 bytes.
 -- Source: Intel 80386 PRM 5.1.1

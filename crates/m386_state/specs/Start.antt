@@ -1,6 +1,7 @@
 -- How a processor begins, and what its state says of its privilege.
 use Rattle.std.specs.Prelude.{ℕ, ◌%◌, [], ◌∷◌, true, false, Some, None, slice_index_or}
 use Rattle.m386_base.specs.Descriptor.{descriptor, no_descriptor}
+use Rattle.m386_base.specs.Segments.{cs}
 use Rattle.m386_state.specs.declared.segment.Seg.{Seg}
 use Rattle.m386_state.specs.declared.segment.TableReg.{TableReg}
 use Rattle.m386_state.specs.declared.proc.Proc.{Proc}
@@ -22,7 +23,7 @@ seg_at p i = slice_index_or p.segs i (unusable_seg 0)
 -- The current privilege level: the RPL of CS.
 -- Source: Intel 80386 PRM 6.3.1
 abbrev pub cpl_of : Proc → ℕ
-cpl_of p = (seg_at p 1).selector % 4
+cpl_of p = (seg_at p cs).selector % 4
 
 -- A processor that starts with no task, at this EIP, with flat segments and CPL 0.
 -- Own choice: docs/DECISIONS.md, "Start"

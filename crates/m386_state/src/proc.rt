@@ -6,6 +6,7 @@ use crate::event::Event;
 use crate::segment::{Seg, TableReg};
 use m386_base::desc::Desc;
 use m386_base::number::Flags;
+use m386_base::segments::CS;
 
 /// What a processor does next, as long as no event comes.
 #[derive(Clone, Copy, Debug, PartialEq, Eq)]
@@ -133,7 +134,7 @@ impl Proc {
     pub fn cpl(&self) -> u8
         ensures { result ≡ cpl_of self.now }
     {
-        (self.segs[1].selector & 3) as u8
+        (self.segs[CS as usize].selector & 3) as u8
     }
 
     /// The bits of EFLAGS that a load may change: CF, PF, AF, ZF, SF, TF, IF, DF, OF, IOPL and NT. Bit 1 is 1 always.

@@ -18,7 +18,7 @@ use Rattle.m386_decode.proofs.Concluding.{wants_nothing, spelled_whole, refused_
 use Rattle.m386_decode.proofs.Exact.{one_answer, answered_wants_none, wanting_before}
 use Rattle.m386_step.specs.declared.fetch.Reader.{Reader}
 use Rattle.m386_step.specs.Code.{read_on, further_phrase, decode_phrase}
-use Rattle.m386_access.specs.Faults.{undefined_opcode_of, general_protection_of}
+use Rattle.m386_base.specs.Exceptions.{undefined_opcode_of, general_protection_of}
 use Rattle.m386_step.specs.Fetch.{byte_phrase}
 use Rattle.m386_step.specs.Fetched.{Fetched, DecodesTo, WantsByte, fetched_more}
 use Rattle.m386_step.proofs.Fetching.{fetched_bytes, fetched_none}

@@ -11,7 +11,7 @@ use Rattle.m386_opmap.specs.Readings.{reading_of}
 use Rattle.m386_opmap.proofs.Table.{contains_cases}
 use Rattle.m386_step.specs.declared.fetch.Reader.{Reader}
 use Rattle.m386_step.specs.Code.{read_on, further_phrase, decode_phrase}
-use Rattle.m386_access.specs.Faults.{general_protection_of}
+use Rattle.m386_base.specs.Exceptions.{general_protection_of}
 use Rattle.m386_step.specs.Fetch.{byte_phrase, group_phrase, linear, taken, fetch_ask}
 use Rattle.m386_step.specs.Once.{is_fetch, IsAnew, with_fetched}
 use Rattle.m386_step.proofs.Anew.{Once, Anything, matches-fetch, matches-addr}

@@ -6,7 +6,7 @@ use Rattle.m386_opmap.specs.declared.outcome.Reading.TheVariants.{Spelled, More,
 use Rattle.m386_opmap.specs.Readings.{reading_of}
 use Rattle.m386_decode.specs.declared.decoded.Decoded.{Decoded}
 use Rattle.m386_step.specs.declared.fetch.Reader.{Reader}
-use Rattle.m386_access.specs.Faults.{undefined_opcode_of, general_protection_of}
+use Rattle.m386_base.specs.Exceptions.{undefined_opcode_of, general_protection_of}
 use Rattle.m386_step.specs.Fetch.{byte_phrase}
 
 -- what comes behind bytes that read so: their operation, #UD, or what is given where they want more

@@ -8,7 +8,8 @@ use Rattle.m386_desc.specs.Offsets.{limit_of}
 use Rattle.m386_state.specs.declared.proc.Proc.{Proc}
 use Rattle.m386_state.specs.Start.{seg_at}
 use Rattle.m386_step.specs.declared.fetch.Reader.{Reader}
-use Rattle.m386_access.specs.Faults.{general_protection_of}
+use Rattle.m386_base.specs.Exceptions.{general_protection_of}
+use Rattle.m386_base.specs.Segments.{cs}
 
 -- byte at % 4 of a group
 abbrev pub byte_in : ℕ → ℕ → ℕ
@@ -21,7 +22,7 @@ fetch_ask group = record { space = Memory; write = false; joined = false; role =
 -- a reader that begins at the instruction at EIP
 abbrev pub first_reader : Proc → Reader
 first_reader p =
-    let code = (seg_at p 1).desc in
+    let code = (seg_at p cs).desc in
     record { base = code.base; limit = limit_of code; at = p.eip; fetched = false; group = 0; value = 0 }
 
 -- the linear address of the next byte

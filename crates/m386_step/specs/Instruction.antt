@@ -4,7 +4,7 @@ use Rattle.m386_base.specs.Phrase.{Phrase, Faults, ◌>>=◌}
 use Rattle.m386_opmap.specs.declared.op.Op.{Op}
 use Rattle.m386_state.specs.declared.proc.Proc.{Proc}
 use Rattle.m386_access.specs.After.{moved}
-use Rattle.m386_access.specs.Faults.{undefined_opcode_of}
+use Rattle.m386_base.specs.Exceptions.{undefined_opcode_of}
 use Rattle.m386_access.specs.Ran.{plainly}
 use Rattle.m386_access.specs.declared.ran.Ran.{Ran}
 use Rattle.m386_data.specs.Exec as data_ops

@@ -1,7 +1,11 @@
 -- One step of one processor, as a grammar over its cycles.
-use Rattle.std.specs.Prelude.{◌==◌, ◌&&◌, ◌||◌, Bool, false, not, bit_and, if◌then◌else◌, Option, Some, None, is_some, List}
+use Rattle.std.specs.Prelude.{◌&&◌, ◌||◌, Bool, false, not, if◌then◌else◌, Option, Some, None, is_some, List}
 use Rattle.m386_base.specs.declared.ask.Ask.{Ask}
+use Rattle.m386_base.specs.declared.exception.Exception.TheVariants.{Debug}
 use Rattle.m386_base.specs.declared.fault.Fault.{Fault}
+use Rattle.m386_base.specs.declared.flags.Flag.TheVariants.{Trap, Interrupt}
+use Rattle.m386_base.specs.Exceptions.{fault_of}
+use Rattle.m386_base.specs.Flags.{has_flag}
 use Rattle.m386_base.specs.Phrase.{Phrase, Done, either, Judgement, follow}
 use Rattle.m386_state.specs.declared.event.Event.{Event}
 use Rattle.m386_state.specs.declared.event.Cause.TheVariants.{Exception}
@@ -10,17 +14,10 @@ use Rattle.m386_state.specs.declared.proc.Mode.{Mode}
 use Rattle.m386_state.specs.declared.proc.Mode.TheVariants.{Running, Halted, Shutdown}
 use Rattle.m386_step.specs.Instruction.{instruction_phrase}
 
--- bits of EFLAGS
-abbrev pub trap_flag : Proc → Bool
-trap_flag p = not (bit_and p.eflags.0 0x100 == 0)
-
-abbrev pub interrupt_flag : Proc → Bool
-interrupt_flag p = not (bit_and p.eflags.0 0x200 == 0)
-
 -- A start, a pending event, or a request with IF set and no shadow comes before anything else.
 -- Source: Intel 80386 PRM 9.2, 9.4; the start: docs/DECISIONS.md, "One step"
 abbrev pub is_due : Proc → Bool
-is_due p = is_some p.start || is_some p.pending || (is_some p.request && interrupt_flag p && not p.shadow)
+is_due p = is_some p.start || is_some p.pending || (is_some p.request && has_flag Interrupt p.eflags && not p.shadow)
 
 -- As long as no delivery is built, an event that is due is dropped, and the processor is shut down.
 -- Own choice: docs/DECISIONS.md, "Events before delivery is built"
@@ -38,7 +35,7 @@ faulted p f = record p { pending = Some (event_of f) }
 -- With TF set at the start of an instruction, vector 1 is pending after it.
 -- Source: Intel 80386 PRM 12.3.1.4
 abbrev pub traced : Proc → Proc → Proc
-traced before after = if trap_flag before then record after { pending = Some (record { vector = 1; code = None; cause = Exception }) } else after
+traced before after = if has_flag Trap before.eflags then faulted after (fault_of Debug) else after
 
 -- the state behind an instruction that began in a state: with its trap, or with the fault that is seen in the new state
 abbrev pub settled : Proc → Proc → Option Fault → Proc

@@ -7,7 +7,7 @@ ghost use Rattle.m386_step.specs.Instruction.{operation_phrase, instruction_phra
 use crate::code::fetch_operation;
 use crate::fetch::reader_at;
 use m386_access::after::moved;
-use m386_access::faults::undefined_opcode;
+use m386_base::exception::undefined_opcode;
 use m386_access::ran::Ran;
 use m386_base::bus::Bus;
 use m386_base::fault::{Break, Fault};

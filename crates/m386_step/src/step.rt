@@ -6,24 +6,17 @@ ghost use Rattle.m386_step.specs.Step.{step_phrase, running_phrase, is_due, with
 
 use crate::instruction::instruction;
 use m386_base::bus::Bus;
+use m386_base::exception::Exception;
 use m386_base::fault::{Break, Fault, Stop};
+use m386_base::flags::{Flag, has_flag};
 use m386_state::event::{Cause, Event};
 use m386_state::proc::{Mode, Proc};
-
-/// The bit TF of EFLAGS.
-const TRAP_FLAG: u32 = 0x100;
-
-/// The bit IF of EFLAGS.
-const INTERRUPT_FLAG: u32 = 0x200;
-
-/// The vector of the single-step trap.
-const DEBUG: u8 = 1;
 
 /// Whether a start or an event comes before anything else.
 fn is_event_due(p: &Proc) -> bool
     ensures { result ≡ is_due p.now }
 {
-    let is_requested = p.request.is_some() && p.eflags.0 & INTERRUPT_FLAG != 0 && !p.shadow;
+    let is_requested = p.request.is_some() && has_flag(Flag::Interrupt, p.eflags) && !p.shadow;
     p.start.is_some() || p.pending.is_some() || is_requested
 }
 
@@ -56,15 +49,11 @@ fn with_fault(p: &Proc, fault: Fault) -> Proc
 fn with_trap(before: &Proc, after: &Proc) -> Proc
     ensures { result ≡ traced before.now after.now }
 {
-    let mut after = *after;
-    if before.eflags.0 & TRAP_FLAG != 0 {
-        after.pending = Some(Event {
-            vector: DEBUG,
-            code: None,
-            cause: Cause::Exception,
-        });
+    if has_flag(Flag::Trap, before.eflags) {
+        with_fault(after, Exception::Debug.fault())
+    } else {
+        *after
     }
-    after
 }
 
 /// The state behind an instruction: with its trap, or with the fault that is seen in the new state.

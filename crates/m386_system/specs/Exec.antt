@@ -3,7 +3,7 @@ use Rattle.std.specs.Prelude.{Bool, is_some, Option, Some, None}
 use Rattle.m386_base.specs.Phrase.{Phrase, Faults}
 use Rattle.m386_opmap.specs.declared.op.Op.{Op}
 use Rattle.m386_state.specs.declared.proc.Proc.{Proc}
-use Rattle.m386_access.specs.Faults.{undefined_opcode_of}
+use Rattle.m386_base.specs.Exceptions.{undefined_opcode_of}
 use Rattle.m386_system.specs.Halt.{halt_phrase}
 use Rattle.m386_system.specs.Jump.{jump_phrase}
 use Rattle.m386_system.specs.Work.{work_of}

@@ -7,7 +7,7 @@ use Rattle.m386_opmap.specs.declared.op.Arg.{Arg}
 use Rattle.m386_opmap.specs.declared.op.Arg.TheVariants.{Rel}
 use Rattle.m386_state.specs.declared.proc.Proc.{Proc}
 use Rattle.m386_access.specs.After.{moved}
-use Rattle.m386_access.specs.Faults.{undefined_opcode_of}
+use Rattle.m386_base.specs.Exceptions.{undefined_opcode_of}
 
 -- by its operands
 abbrev pub jump_to : List Arg → Proc → Phrase Proc

@@ -7,7 +7,7 @@ use Rattle.m386_state.specs.declared.proc.Proc.{Proc}
 use Rattle.m386_access.specs.declared.ran.Ran.{Ran}
 use Rattle.m386_access.specs.Access.{read_at_phrase}
 use Rattle.m386_access.specs.After.{with_register}
-use Rattle.m386_access.specs.Faults.{general_protection_of}
+use Rattle.m386_base.specs.Exceptions.{general_protection_of}
 use Rattle.m386_access.specs.Ran.{ran, told}
 
 -- the fault that is pending in the new state

@@ -6,7 +6,7 @@ ghost use Rattle.m386_system.specs.Exec.{takes, exec_phrase, work_phrase};
 use crate::halt::halt;
 use crate::jump::jump;
 use crate::work::{Work, work_of};
-use m386_access::faults::undefined_opcode;
+use m386_base::exception::undefined_opcode;
 use m386_base::bus::Bus;
 use m386_base::fault::Break;
 use m386_opmap::op::Op;

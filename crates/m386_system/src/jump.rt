@@ -4,7 +4,7 @@ ghost use Rattle.m386_base.specs.Phrase.{Performs, it};
 ghost use Rattle.m386_system.specs.Jump.{jump_phrase, jump_to};
 
 use m386_access::after::moved;
-use m386_access::faults::undefined_opcode;
+use m386_base::exception::undefined_opcode;
 use m386_base::bus::Bus;
 use m386_base::fault::Break;
 use m386_base::number::Width;

@@ -6,7 +6,7 @@ ghost use Rattle.m386_system.specs.Trial.{trial_phrase, told_phrase, late_fault}
 
 use m386_access::access::read_at;
 use m386_access::after::with_register;
-use m386_access::faults::general_protection;
+use m386_base::exception::general_protection;
 use m386_access::ran::Ran;
 use m386_base::bus::Bus;
 use m386_base::fault::{Break, Fault};

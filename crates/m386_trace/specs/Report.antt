@@ -1,6 +1,7 @@
 -- The report on a run, line by line.
 use Rattle.std.specs.Prelude.{ℕ, ◌+◌, ◌<◌, List, [], ◌∷◌, ◌++◌, Option, Some, None, length, slice_index, codes, decimal}
 use Rattle.std.specs.List.{flat_map}
+use Rattle.m386_base.specs.Segments.{es, cs, ss, ds, fs, gs}
 use Rattle.m386_base.specs.declared.ask.Ask.{Ask}
 use Rattle.m386_base.specs.declared.ask.Cycle.{Cycle}
 use Rattle.m386_image.specs.declared.image.Image.{Image}
@@ -46,9 +47,9 @@ register_fields p =
 -- each selector, behind the name of its register
 abbrev pub selector_fields : Proc → List (List ℕ)
 selector_fields p =
-    codes "es" ∷ hex4 (seg_at p 0).selector ∷ codes "cs" ∷ hex4 (seg_at p 1).selector
-    ∷ codes "ss" ∷ hex4 (seg_at p 2).selector ∷ codes "ds" ∷ hex4 (seg_at p 3).selector
-    ∷ codes "fs" ∷ hex4 (seg_at p 4).selector ∷ codes "gs" ∷ hex4 (seg_at p 5).selector
+    codes "es" ∷ hex4 (seg_at p es).selector ∷ codes "cs" ∷ hex4 (seg_at p cs).selector
+    ∷ codes "ss" ∷ hex4 (seg_at p ss).selector ∷ codes "ds" ∷ hex4 (seg_at p ds).selector
+    ∷ codes "fs" ∷ hex4 (seg_at p fs).selector ∷ codes "gs" ∷ hex4 (seg_at p gs).selector
     ∷ codes "ldt" ∷ hex4 p.ldtr.selector ∷ codes "tr" ∷ hex4 p.tr.selector ∷ []
 
 -- an error code

@@ -1,5 +1,6 @@
 use Rattle.std.proofs.Common.{rules, refl, ◌<◌, ◌^◌}
-use Rattle.m386_alu.proofs.BitPlaces.{set_bit, clear_bit, flip_bit, mask_at}
+use Rattle.m386_base.proofs.BitPlaces.{set_bit, clear_bit, mask_at}
+use Rattle.m386_alu.proofs.Tested.{flip_bit}
 use Rattle.m386_alu.proofs.bit_tests.change.Goals as goal
 
 pub returns-in-Set : goal.returns-in-Set

@@ -1,7 +1,7 @@
 use Rattle.std.proofs.Common.{arith, rules, ◌<◌, ◌^◌}
-use Rattle.m386_alu.specs.Flags.{place, with_flag}
-use Rattle.m386_alu.proofs.BitPlaces.{set_bit, clear_bit, mask_at}
-use Rattle.m386_alu.proofs.flags.put_flag.Goals as goal
+use Rattle.m386_base.specs.Flags.{place, with_flag}
+use Rattle.m386_base.proofs.BitPlaces.{set_bit, clear_bit, mask_at}
+use Rattle.m386_base.proofs.flags.put_flag.Goals as goal
 
 pub returns-then-value : goal.returns-then-value
 unfolding with_flag
