@@ -5,7 +5,7 @@ use Rattle.m386_base.specs.declared.ask.Role.{Role}
 use Rattle.m386_base.specs.declared.ask.Role.TheVariants.{Operand}
 use Rattle.m386_base.specs.declared.ask.Space.TheVariants.{Memory}
 use Rattle.m386_base.specs.declared.split.Piece.{Piece}
-use Rattle.m386_base.specs.Phrase.{Phrase, Done, Faults, ◌>>=◌, one}
+use Rattle.m386_base.specs.Phrase.{Phrase, ◌>>=◌}
 use Rattle.m386_base.specs.Split.{pieces, pieces_from, wrapped}
 use Rattle.m386_opmap.specs.declared.op.Addr.{Addr}
 use Rattle.m386_state.specs.declared.proc.Proc.{Proc}

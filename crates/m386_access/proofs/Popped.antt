@@ -1,5 +1,5 @@
 -- A flags image has NT only where a cycle that read it has.
-use Rattle.std.proofs.Common.{arith, ◌≡◌, ℕ, zero, suc, ◌+◌, ◌-◌, ◌*◌, ◌/◌, ◌%◌, ◌^◌, ◌<◌, ◌==◌, ◌||◌, ◌&&◌, ◌⊎◌, ◌∙◌, not, inl, inr, refl, sym, ap, subst, List, [], ◌∷◌, length, Bool, true, false, eqb, eq-eqb, bit_or, bit_and, nat_le}
+use Rattle.std.proofs.Common.{arith, ◌≡◌, ℕ, zero, suc, ◌+◌, ◌-◌, ◌*◌, ◌/◌, ◌%◌, ◌^◌, ◌<◌, ◌==◌, ◌||◌, ◌⊎◌, ◌∙◌, not, inl, inr, refl, sym, ap, subst, List, [], ◌∷◌, length, Bool, true, false, eq-eqb, bit_or, bit_and, nat_le}
 use Rattle.std.specs.List.{list_any}
 use Rattle.std.proofs.lemmas.Bool.{eqb-true}
 use Rattle.std.proofs.lemmas.Nat.{and_or_apart}

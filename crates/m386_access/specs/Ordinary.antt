@@ -5,9 +5,12 @@ use Rattle.m386_base.specs.declared.ask.Role.{Role}
 use Rattle.m386_base.specs.declared.ask.Role.TheVariants as roles
 use Rattle.m386_base.specs.declared.ask.Space.TheVariants.{Memory}
 use Rattle.m386_base.specs.Bytes.{bytes_of, Has, heard, has_nt}
+use Rattle.m386_base.specs.declared.flags.Flag.TheVariants.{NestedTask}
+use Rattle.m386_base.specs.Flags.{has_bit, place}
 use Rattle.m386_base.specs.Phrase.{Phrase, role_number}
 use Rattle.m386_base.specs.Plain.{Plain}
 use Rattle.m386_desc.specs.Selector.{is_null_selector, names_ldt, is_in_table, place_in}
+use Rattle.m386_access.specs.declared.ran.Ran.{Ran}
 use Rattle.m386_state.specs.declared.proc.Proc.{Proc}
 use Rattle.m386_state.specs.declared.segment.TableReg.{TableReg}
 
@@ -79,7 +82,7 @@ pub data Ordinary (gdt : TableReg) (ts : List Ask) (q : Ask) : Type 0 where
 
 -- bit NT of a flags image
 abbrev pub has_nested : ℕ → Bool
-has_nested n = n / 2 ^ 14 % 2 == 1
+has_nested n = has_bit n (place NestedTask)
 
 abbrev pub is_nested : Proc → Bool
 is_nested p = has_nested p.eflags.0
@@ -106,3 +109,11 @@ pub record Keeps (p : Proc) (ts : List Ask) (after : Proc) : Type 0 where
 -- The law of an ordinary operation that begins in p: at most n cycles.
 abbrev pub PlainFrom : ℕ → Proc → Phrase Proc → Type 0
 PlainFrom n p t = Plain n (Ordinary p.gdtr) (Keeps p) [] t
+
+-- what is kept of a state that an operation leaves, whatever is pending in it
+abbrev pub KeepsRan : Proc → List Ask → Ran → Type 0
+KeepsRan p ts r = Keeps p ts r.after
+
+-- the law of an ordinary operation whose fault may be seen in the state that it leaves
+abbrev pub PlainRanFrom : ℕ → Proc → Phrase Ran → Type 0
+PlainRanFrom n p t = Plain n (Ordinary p.gdtr) (KeepsRan p) [] t

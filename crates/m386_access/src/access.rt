@@ -4,9 +4,9 @@ ghost use Rattle.m386_base.specs.Phrase.{Performs, it};
 ghost use Rattle.m386_access.specs.Access.{read_phrase, write_phrase, read_at_phrase, write_at_phrase, reads, writes, memory_pieces};
 
 use crate::address::{access_fault, linear, may_read, may_write, offset, segment, segment_number};
-use m386_base::exception::general_protection;
 use m386_base::ask::{Ask, Role, Space};
 use m386_base::bus::{Bus, cycle_or_fault};
+use m386_base::exception::general_protection;
 use m386_base::fault::Break;
 use m386_base::split::{gather, split, spread};
 use m386_opmap::op::Addr;

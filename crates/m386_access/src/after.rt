@@ -74,7 +74,11 @@ fn with_byte_register(p: &Proc, register: u8, value: u32) -> Proc
     if register / 4 % 2 == 0 {
         with_register(p, register % 4, whole / 256 * 256 + value % 256)
     } else {
-        with_register(p, register % 4, whole / 65536 * 65536 + value % 256 * 256 + whole % 256)
+        with_register(
+            p,
+            register % 4,
+            whole / 65536 * 65536 + value % 256 * 256 + whole % 256,
+        )
     }
 }
 
@@ -84,7 +88,11 @@ pub fn with_register_at(width: Width, p: &Proc, register: u8, value: u32) -> Pro
 {
     match width {
         Width::W32 => with_register(p, register, value),
-        Width::W16 => with_register(p, register, register_of(p, register) / 65536 * 65536 + value % 65536),
+        Width::W16 => with_register(
+            p,
+            register,
+            register_of(p, register) / 65536 * 65536 + value % 65536,
+        ),
         Width::W8 => with_byte_register(p, register, value),
     }
 }

@@ -1,4 +1,6 @@
 //! A state that an instruction leaves, and the fault that is pending in it.
+ghost use Rattle.std.specs.Prelude.{◌≡◌, None};
+ghost use Rattle.m386_access.specs.Ran.{ran};
 
 use m386_base::fault::Fault;
 use m386_state::proc::Proc;
@@ -11,4 +13,11 @@ pub struct Ran {
     pub after: Proc,
     /// The fault that is pending in it.
     pub fault: Option<Fault>,
+}
+
+/// A state in which no fault is pending.
+pub fn without_fault(after: Proc) -> Ran
+    ensures { result ≡ ran after None }
+{
+    Ran { after, fault: None }
 }

@@ -1,11 +1,13 @@
 -- No step makes a cycle of a task switch, and each keeps TR.
-use Rattle.std.proofs.Common.{◌≡◌, ℕ, zero, suc, ◌++◌, List, [], ◌∷◌, refl, sym, subst, ap, ◌∙◌, ◌⊎◌, inl, inr, Bool, true, false, cond, ◌==◌, ◌&&◌, ◌||◌, nat_le, nat_lt, ◌-◌, ◌%◌, ◌+◌, ◌^◌, Option, Some, None}
+use Rattle.std.proofs.Common.{◌≡◌, ℕ, zero, suc, ◌++◌, List, [], ◌∷◌, refl, sym, subst, ap, ◌⊎◌, inl, inr, Bool, true, false, cond, ◌==◌, ◌&&◌, ◌||◌, nat_le, nat_lt, ◌-◌, ◌%◌, ◌+◌, ◌^◌, Option, Some, None}
 use Rattle.m386_base.specs.declared.ask.Ask.{Ask}
 use Rattle.m386_base.specs.declared.ask.Role.{Role}
 use Rattle.m386_base.specs.declared.ask.Role.TheVariants as roles
 use Rattle.m386_base.specs.declared.fault.Fault.{Fault}
 use Rattle.m386_base.specs.Bus.{cycle_of}
 use Rattle.m386_base.specs.Bytes.{has_nt}
+use Rattle.m386_base.specs.declared.flags.Flag.TheVariants.{Trap}
+use Rattle.m386_base.specs.Flags.{has_flag}
 use Rattle.m386_base.specs.Laws.{Obeys}
 use Rattle.m386_base.specs.Phrase.{Phrase, Done, Faults, Asks, Begins, ◌>>=◌, either, one, matches, answer_of, role_number}
 use Rattle.m386_base.proofs.Bounds.{obeys_then}
@@ -20,7 +22,7 @@ use Rattle.m386_state.specs.declared.proc.Mode.TheVariants.{Running, Halted, Shu
 use Rattle.m386_state.specs.declared.proc.Proc.{Proc}
 use Rattle.m386_state.specs.declared.segment.TableReg.{TableReg}
 use Rattle.m386_access.specs.After.{moved}
-use Rattle.m386_access.specs.Ordinary.{Ordinary, Reads, Writes, Accesses, is_read_role, is_write_role, has_role, is_nested, popped, Keeps}
+use Rattle.m386_access.specs.Ordinary.{Ordinary, Reads, Writes, Accesses, is_read_role, is_write_role, has_role, is_nested, popped, Keeps, KeepsRan}
 use Rattle.m386_access.specs.declared.ran.Ran.{Ran}
 use Rattle.m386_base.proofs.Matched.{cycle_matched}
 use Rattle.m386_base.proofs.Plain.{plain_obeys}
@@ -29,9 +31,9 @@ use Rattle.m386_step.specs.Code.{read_on, further_phrase, decode_phrase}
 use Rattle.m386_step.specs.Fetch.{byte_phrase, group_phrase, linear, first_reader, taken, fetch_ask}
 use Rattle.m386_step.specs.Instruction.{operation_phrase, instruction_phrase}
 use Rattle.m386_step.specs.Keeping.{is_switch_cycle, NoSwitch, with_cycle, KeepsTask, AnyFault}
-use Rattle.m386_step.specs.Step.{is_due, without_event, trap_flag, traced, faulted, settled, running_phrase, turn_phrase, step_phrase}
+use Rattle.m386_step.specs.Step.{is_due, without_event, settled, running_phrase, turn_phrase, step_phrase}
 use Rattle.m386_step.proofs.Anew.{matches-role}
-use Rattle.m386_step.proofs.Ordinary.{KeepsRan, plain_operation}
+use Rattle.m386_step.proofs.Ordinary.{plain_operation}
 
 -- a phrase of a step, between the cycles before it and what holds behind it
 abbrev Calm : {A : Type 0} → (List Ask → A → Type 0) → List Ask → Phrase A → Type 0
@@ -168,7 +170,7 @@ keeps_pending p us after e false k = k
 
 keeps_settled : (p : Proc) (us : List Ask) (after : Proc) (fault : Option Fault) → KeepsTask p us after → KeepsTask p us (settled p after fault)
 keeps_settled p us after (Some f) k = record { tr = k.tr; gdtr = k.gdtr; nested = k.nested }
-keeps_settled p us after None k = keeps_pending p us after _ (trap_flag p) k
+keeps_settled p us after None k = keeps_pending p us after _ (has_flag Trap p.eflags) k
 
 calm_turn : (m : Mode) (p : Proc) → Calm (KeepsTask p) [] (turn_phrase m p)
 unfolding running_phrase

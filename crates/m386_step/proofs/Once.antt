@@ -1,9 +1,6 @@
 -- No step fetches a group twice: its instruction's bytes rise, and what an operation does fetches nothing.
-use Rattle.std.proofs.Common.{ℕ, ◌+◌, ◌^◌, List, [], ◌∷◌, refl, cond, Bool, true, false, nat_le, Result, Ok, Err}
-use Rattle.m386_base.specs.declared.ask.Role.TheVariants.{Operand}
-use Rattle.m386_base.specs.declared.fault.Fault.{Fault}
-use Rattle.m386_base.specs.declared.split.Piece.{Piece}
-use Rattle.m386_base.specs.Phrase.{Done, ◌>>=◌}
+use Rattle.std.proofs.Common.{[], cond, Bool, true, false}
+use Rattle.m386_base.specs.Phrase.{Done}
 use Rattle.m386_base.proofs.Bounds.{obeys_then}
 use Rattle.m386_state.specs.declared.proc.Mode.{Mode}
 use Rattle.m386_state.specs.declared.proc.Mode.TheVariants.{Running, Halted, Shutdown}
@@ -14,7 +11,7 @@ use Rattle.m386_step.specs.Instruction.{operation_phrase, instruction_phrase}
 use Rattle.m386_step.proofs.Ordinary.{none_operation}
 use Rattle.m386_step.specs.Once.{IsAnew, with_fetched, FetchesOnce}
 use Rattle.m386_step.specs.Step.{is_due, without_event, running_phrase, turn_phrase, step_phrase}
-use Rattle.m386_step.proofs.Anew.{Once, Anything, FetchesNone, none_once, none_then, none_if, once_either}
+use Rattle.m386_step.proofs.Anew.{Once, Anything, none_once, once_either}
 use Rattle.m386_step.proofs.Rising.{once_decode}
 
 once_instruction : (p : Proc) → Once Anything [] (instruction_phrase p)

@@ -1,43 +1,46 @@
 -- What follows for each operation from the law that it owes.
-use Rattle.std.proofs.Common.{◌≡◌, ℕ, zero, suc, List, [], ◌∷◌, ◌-◌, refl, arith, Option, Some, None, Bool, true, false, cond, ◌==◌, nat_le}
+use Rattle.std.proofs.Common.{◌≡◌, ℕ, zero, suc, List, [], ◌∷◌, ◌-◌, refl, arith, true, false, ◌==◌, nat_le}
 use Rattle.m386_base.specs.declared.ask.Ask.{Ask}
 use Rattle.m386_base.specs.declared.ask.Role.{Role}
 use Rattle.m386_base.specs.declared.ask.Role.TheVariants.{Fetch}
 use Rattle.m386_base.specs.Bus.{cycle_of}
 use Rattle.m386_base.specs.Laws.{AtMost}
-use Rattle.m386_base.specs.Phrase.{Phrase, Done, Faults, Asks, Begins, ◌>>=◌, role_number}
+use Rattle.m386_base.specs.Phrase.{Phrase, Done, Faults, Asks, Begins, role_number}
 use Rattle.m386_opmap.specs.declared.op.Op.{Op}
 use Rattle.m386_state.specs.declared.proc.Proc.{Proc}
 use Rattle.m386_state.specs.declared.segment.TableReg.{TableReg}
-use Rattle.m386_access.specs.Ordinary.{Ordinary, Reads, Writes, Accesses, is_read_role, is_write_role, Keeps, PlainFrom}
+use Rattle.m386_access.specs.Ordinary.{Ordinary, Reads, Writes, Accesses, is_read_role, is_write_role, Keeps, KeepsRan, PlainFrom, PlainRanFrom}
 use Rattle.m386_base.specs.Plain.{Plain}
 use Rattle.m386_access.specs.Ran.{plainly, whole}
 use Rattle.m386_access.specs.declared.ran.Ran.{Ran}
 use Rattle.m386_base.proofs.Plain.{plain_at_most, plain_bind, plain_done, plain_faults, plain_if, plain_within}
 use Rattle.m386_data.proofs.Plain as data_laws
 use Rattle.m386_data.specs.Exec as data_specs
+use Rattle.m386_gates.proofs.Plain as gates_laws
+use Rattle.m386_gates.specs.Exec as gates_specs
 use Rattle.m386_system.proofs.Plain as system_laws
 use Rattle.m386_system.specs.Exec as system_specs
 use Rattle.m386_step.specs.Instruction.{operation_phrase}
 use Rattle.m386_step.specs.Once.{is_fetch}
 use Rattle.m386_step.proofs.Anew.{FetchesNone}
 
--- what is kept of a state that an operation leaves, whatever is pending in it
-abbrev pub KeepsRan : Proc → List Ask → Ran → Type 0
-KeepsRan p us r = Keeps p us r.after
-
 -- an ordinary operation of a crate
-plain_plainly : (m n : ℕ) (p : Proc) (t : Phrase Proc) → nat_le m n ≡ true → PlainFrom m p t → Plain n (Ordinary p.gdtr) (KeepsRan p) [] (plainly t)
+plain_plainly : (m n : ℕ) (p : Proc) (t : Phrase Proc) → nat_le m n ≡ true → PlainFrom m p t → PlainRanFrom n p (plainly t)
 unfolding plainly
 plain_plainly m n p t l h = plain_bind m n (Ordinary p.gdtr) (Keeps p) (KeepsRan p) [] t whole (grind (arith, l)) h (λ us after k. plain_done (n - m) (Ordinary p.gdtr) (KeepsRan p) us _ k)
 
+-- one whose fault may be seen in the state that it leaves
+within : (m n : ℕ) (p : Proc) (t : Phrase Ran) → nat_le m n ≡ true → PlainRanFrom m p t → PlainRanFrom n p t
+within m n p t l h = plain_within m n (Ordinary p.gdtr) (KeepsRan p) [] t (grind (arith, l)) h
+
 -- each crate, one line
-pub plain_operation : (op : Op) (p : Proc) → Plain 8 (Ordinary p.gdtr) (KeepsRan p) [] (operation_phrase op p)
+pub plain_operation : (op : Op) (p : Proc) → PlainRanFrom 8 p (operation_phrase op p)
 unfolding operation_phrase
 plain_operation op p =
     plain_if 8 (Ordinary p.gdtr) (KeepsRan p) [] (data_specs.takes op) _ _ (plain_plainly 8 8 p _ refl (data_laws.exec_plain op p))
+    (plain_if 8 (Ordinary p.gdtr) (KeepsRan p) [] (gates_specs.takes op) _ _ (within 0 8 p _ refl (gates_laws.exec_plain op p))
     (plain_if 8 (Ordinary p.gdtr) (KeepsRan p) [] (system_specs.takes op) _ _ (plain_plainly 0 8 p _ refl (system_laws.exec_plain op p))
-    (plain_faults 8 (Ordinary p.gdtr) (KeepsRan p) [] _))
+    (plain_faults 8 (Ordinary p.gdtr) (KeepsRan p) [] _)))
 
 -- It makes few cycles.
 pub short_operation : (op : Op) (p : Proc) → AtMost 8 (operation_phrase op p)

@@ -1,14 +1,8 @@
 -- No step has more than 192 cycles, and none ends in a fault.
-use Rattle.std.proofs.Common.{◌≡◌, ℕ, zero, suc, ◌+◌, ◌++◌, ◌-◌, ◌%◌, ◌≤◌, ◌^◌, List, [], ◌∷◌, length, refl, arith, true, false, cond, Bool, nat_le, nat_lt, ◌&&◌, ◌==◌, Result, Ok, Err}
-use Rattle.m386_base.specs.declared.ask.Role.{Role}
-use Rattle.m386_base.specs.declared.ask.Role.TheVariants.{Operand}
-use Rattle.m386_base.specs.declared.ask.Space.TheVariants.{Memory}
-use Rattle.m386_base.specs.declared.fault.Fault.{Fault}
-use Rattle.m386_base.specs.declared.split.Piece.{Piece}
+use Rattle.std.proofs.Common.{◌≡◌, ℕ, zero, suc, ◌+◌, ◌++◌, ◌-◌, ◌%◌, List, [], ◌∷◌, arith, true, false, cond, Bool, nat_lt, ◌&&◌, ◌==◌}
 use Rattle.m386_base.specs.Laws.{AtMost, Sound}
 use Rattle.m386_base.specs.Phrase.{Phrase, Done, ◌>>=◌, one}
-use Rattle.m386_base.specs.Split.{pieces, pieces_from, wrapped}
-use Rattle.m386_base.proofs.Bounds.{at_most_then, at_most_either, at_most_within, at_most_if, sound_either}
+use Rattle.m386_base.proofs.Bounds.{at_most_then, at_most_either, at_most_if, sound_either}
 use Rattle.m386_decode.specs.declared.decoded.Decoded.{Decoded}
 use Rattle.m386_opmap.specs.declared.outcome.Reading.{Reading}
 use Rattle.m386_opmap.specs.declared.outcome.Reading.TheVariants.{Spelled, More, Refused}

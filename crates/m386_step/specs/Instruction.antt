@@ -1,5 +1,5 @@
 -- One instruction: the crate that has its operation.
-use Rattle.std.specs.Prelude.{ℕ, ◌+◌, ◌%◌, ◌^◌, if◌then◌else◌}
+use Rattle.std.specs.Prelude.{◌+◌, ◌%◌, ◌^◌, if◌then◌else◌}
 use Rattle.m386_base.specs.Phrase.{Phrase, Faults, ◌>>=◌}
 use Rattle.m386_opmap.specs.declared.op.Op.{Op}
 use Rattle.m386_state.specs.declared.proc.Proc.{Proc}
@@ -8,6 +8,7 @@ use Rattle.m386_base.specs.Exceptions.{undefined_opcode_of}
 use Rattle.m386_access.specs.Ran.{plainly}
 use Rattle.m386_access.specs.declared.ran.Ran.{Ran}
 use Rattle.m386_data.specs.Exec as data_ops
+use Rattle.m386_gates.specs.Exec as gates_ops
 use Rattle.m386_system.specs.Exec as system_ops
 use Rattle.m386_step.specs.Code.{decode_phrase}
 use Rattle.m386_step.specs.Fetch.{first_reader}
@@ -17,6 +18,7 @@ use Rattle.m386_step.specs.Fetch.{first_reader}
 unfoldable pub operation_phrase : Op → Proc → Phrase Ran
 operation_phrase op p =
     if data_ops.takes op then plainly (data_ops.exec_phrase op p)
+    else if gates_ops.takes op then gates_ops.exec_phrase op p
     else if system_ops.takes op then plainly (system_ops.exec_phrase op p)
     else Faults undefined_opcode_of
 

@@ -3,8 +3,7 @@ use Rattle.std.specs.Prelude.{◌≡◌, ◌⊎◌, ◌&&◌, nat_le, Bool, true
 use Rattle.m386_base.specs.declared.ask.Ask.{Ask}
 use Rattle.m386_base.specs.declared.ask.Role.TheVariants as roles
 use Rattle.m386_base.specs.declared.fault.Fault.{Fault}
-use Rattle.m386_base.specs.Laws.{Obeys}
-use Rattle.m386_base.specs.Phrase.{Phrase, role_number}
+use Rattle.m386_base.specs.Phrase.{role_number}
 use Rattle.m386_state.specs.declared.proc.Proc.{Proc}
 use Rattle.m386_access.specs.Ordinary.{has_role, is_nested, popped}
 

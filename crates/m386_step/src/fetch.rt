@@ -3,9 +3,9 @@ ghost use Rattle.std.specs.Prelude.{◌≡◌, false, ◌+◌, ◌*◌, ◌%◌,
 ghost use Rattle.m386_base.specs.Phrase.{Performs};
 ghost use Rattle.m386_step.specs.Fetch.{byte_phrase, group_phrase, byte_in, first_reader};
 
-use m386_base::exception::general_protection;
 use m386_base::ask::{Ask, Role, Space};
 use m386_base::bus::{Bus, cycle_or_fault};
+use m386_base::exception::general_protection;
 use m386_base::fault::Break;
 use m386_base::segments::CS;
 use m386_desc::offsets::limit;

@@ -7,11 +7,12 @@ ghost use Rattle.m386_step.specs.Instruction.{operation_phrase, instruction_phra
 use crate::code::fetch_operation;
 use crate::fetch::reader_at;
 use m386_access::after::moved;
-use m386_base::exception::undefined_opcode;
 use m386_access::ran::Ran;
 use m386_base::bus::Bus;
+use m386_base::exception::undefined_opcode;
 use m386_base::fault::{Break, Fault};
 use m386_data::exec as data;
+use m386_gates::exec as gates;
 use m386_opmap::op::Op;
 use m386_state::proc::Proc;
 use m386_system::exec as system;
@@ -28,6 +29,9 @@ fn perform<B: Bus>(p: &mut Proc, op: &Op, bus: &mut B) -> Result<Option<Fault>, 
     if data::takes(op) {
         data::exec(p, op, bus)?;
         return Ok(None);
+    }
+    if gates::takes(op) {
+        return gates::attempt(p, op, bus);
     }
     if system::takes(op) {
         system::exec(p, op, bus)?;

@@ -1,37 +1,22 @@
 -- The law of each kind of work.
-use Rattle.std.proofs.Common.{List, [], ◌∷◌, Option, Some, None}
-use Rattle.m386_base.specs.declared.number.Width.{Width}
-use Rattle.m386_base.specs.declared.number.Width.TheVariants.{W8, W16, W32}
-use Rattle.m386_opmap.specs.declared.op.Arg.{Arg}
-use Rattle.m386_opmap.specs.declared.op.Arg.TheVariants.{Rel}
+use Rattle.std.proofs.Common.{Option, Some, None}
 use Rattle.m386_opmap.specs.declared.op.Op.{Op}
 use Rattle.m386_state.specs.declared.proc.Proc.{Proc}
 use Rattle.m386_access.specs.Ordinary.{PlainFrom}
 use Rattle.m386_access.proofs.Phrases.{plain}
 use Rattle.m386_system.specs.Exec.{work_phrase, exec_phrase}
 use Rattle.m386_system.specs.Halt.{halt_phrase}
-use Rattle.m386_system.specs.Jump.{jump_phrase, jump_to}
 use Rattle.m386_system.specs.Work.{work_of}
 use Rattle.m386_system.specs.declared.work.Work.{Work}
-use Rattle.m386_system.specs.declared.work.Work.TheVariants.{Halt, Jump}
+use Rattle.m386_system.specs.declared.work.Work.TheVariants.{Halt}
 
 halt_plain : (p : Proc) → PlainFrom 0 p (halt_phrase p)
 unfolding halt_phrase
 halt_plain p = search plain
 
-jump_to_plain : (args : List Arg) (p : Proc) → PlainFrom 0 p (jump_to args p)
-jump_to_plain (Rel distance ∷ []) p = search plain
-jump_to_plain _ p = search plain
-
-jump_plain : (width : Width) (args : List Arg) (p : Proc) → PlainFrom 0 p (jump_phrase width args p)
-jump_plain W32 args p = jump_to_plain args p
-jump_plain W16 args p = search plain
-jump_plain W8 args p = search plain
-
 -- each kind of work, one line
 work_plain : (work : Option Work) (op : Op) (p : Proc) → PlainFrom 0 p (work_phrase work op p)
 work_plain (Some Halt) op p = halt_plain p
-work_plain (Some Jump) op p = jump_plain op.width op.args.items p
 work_plain None op p = search plain
 
 pub exec_plain : (op : Op) (p : Proc) → PlainFrom 0 p (exec_phrase op p)

@@ -5,15 +5,13 @@ use Rattle.m386_opmap.specs.declared.op.Op.{Op}
 use Rattle.m386_state.specs.declared.proc.Proc.{Proc}
 use Rattle.m386_base.specs.Exceptions.{undefined_opcode_of}
 use Rattle.m386_system.specs.Halt.{halt_phrase}
-use Rattle.m386_system.specs.Jump.{jump_phrase}
 use Rattle.m386_system.specs.Work.{work_of}
 use Rattle.m386_system.specs.declared.work.Work.{Work}
-use Rattle.m386_system.specs.declared.work.Work.TheVariants.{Halt, Jump}
+use Rattle.m386_system.specs.declared.work.Work.TheVariants.{Halt}
 
 -- one case for each kind of work
 abbrev pub work_phrase : Option Work → Op → Proc → Phrase Proc
 work_phrase (Some Halt) op p = halt_phrase p
-work_phrase (Some Jump) op p = jump_phrase op.width op.args.items p
 work_phrase None op p = Faults undefined_opcode_of
 
 -- whether an operation is one of this crate's

@@ -1,5 +1,3 @@
 pub mod Exec
 pub mod Halt
-pub mod Jump
-pub mod Trial
 pub mod Work

@@ -3,11 +3,10 @@ use Rattle.std.specs.Prelude.{Option, Some, None}
 use Rattle.m386_opmap.specs.declared.name.Name.{Name}
 use Rattle.m386_opmap.specs.declared.name.Name.TheVariants as names
 use Rattle.m386_system.specs.declared.work.Work.{Work}
-use Rattle.m386_system.specs.declared.work.Work.TheVariants.{Halt, Jump}
+use Rattle.m386_system.specs.declared.work.Work.TheVariants.{Halt}
 
 -- The work of a name, where this crate has it.
--- Source: Intel 80386 PRM 17.2.2.11, HLT, JMP
+-- Source: Intel 80386 PRM 17.2.2.11, HLT
 abbrev pub work_of : Name → Option Work
 work_of names.Hlt = Some Halt
-work_of names.Jmp = Some Jump
 work_of _ = None

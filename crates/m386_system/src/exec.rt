@@ -4,10 +4,9 @@ ghost use Rattle.m386_base.specs.Phrase.{Performs, it};
 ghost use Rattle.m386_system.specs.Exec.{takes, exec_phrase, work_phrase};
 
 use crate::halt::halt;
-use crate::jump::jump;
 use crate::work::{Work, work_of};
-use m386_base::exception::undefined_opcode;
 use m386_base::bus::Bus;
+use m386_base::exception::undefined_opcode;
 use m386_base::fault::Break;
 use m386_opmap::op::Op;
 use m386_state::proc::Proc;
@@ -29,7 +28,6 @@ fn perform<B: Bus>(work: Option<Work>, op: &Op, p: &Proc, bus: &mut B) -> Result
 {
     match work {
         Some(Work::Halt) => halt(p, bus),
-        Some(Work::Jump) => jump(op.width, op.args.as_slice(), p, bus),
         None => Err(Break::Fault(undefined_opcode())),
     }
 }

@@ -3,8 +3,8 @@ ghost use Rattle.std.specs.Prelude.{◌≡◌, false};
 ghost use Rattle.m386_base.specs.Phrase.{Performs, it};
 ghost use Rattle.m386_system.specs.Halt.{halt_phrase};
 
-use m386_base::exception::general_protection;
 use m386_base::bus::Bus;
+use m386_base::exception::general_protection;
 use m386_base::fault::Break;
 use m386_state::proc::{Mode, Proc};
 

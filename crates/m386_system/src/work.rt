@@ -9,8 +9,6 @@ use m386_opmap::name::Name;
 pub enum Work {
     /// HLT.
     Halt,
-    /// JMP.
-    Jump,
 }
 
 /// The work of a name, where this crate has it.
@@ -19,7 +17,6 @@ pub fn work_of(name: Name) -> Option<Work>
 {
     match name {
         Name::Hlt => Some(Work::Halt),
-        Name::Jmp => Some(Work::Jump),
         _ => None,
     }
 }

@@ -1,5 +1,6 @@
 -- Of bytes of which all but the last want more, the last one ends what is read.
-use Rattle.std.proofs.Common.{inl, subst}
+use Rattle.std.proofs.Common.{ap, inl, subst}
+use Rattle.m386_base.specs.declared.fault.Break.TheVariants as breaks
 use Rattle.m386_opmap.specs.declared.outcome.Reading.{Reading}
 use Rattle.m386_opmap.specs.Spelling.{IsReadingOf}
 use Rattle.m386_decode.proofs.Concluding.{spelled_whole, refused_at_last}
@@ -15,4 +16,4 @@ pub returns-in-Refused-clause-some : goal.returns-in-Refused-clause-some
 returns-in-Refused-clause-some c =
     let before = c.requires.before in
     let P : Reading → Type 0 = IsReadingOf c.args.bytes.now in
-    inl (c.requires.few, refused_at_last before.0 before.1 c.args.bytes.now c.in-Refused.at before.2 before.3 (subst P c.in-Refused.is c.reading.ensures.says), c.undefined_opcode.ensures)
+    inl (c.requires.few, refused_at_last before.0 before.1 c.args.bytes.now c.in-Refused.at before.2 before.3 (subst P c.in-Refused.is c.reading.ensures.says), ap breaks.Fault c.undefined_opcode.ensures)

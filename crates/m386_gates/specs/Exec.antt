@@ -1,0 +1,24 @@
+-- The operations of this crate, whose fault may be seen in the state that they leave.
+use Rattle.std.specs.Prelude.{Bool, is_some, Option, Some, None}
+use Rattle.m386_base.specs.Exceptions.{undefined_opcode_of}
+use Rattle.m386_base.specs.Phrase.{Phrase, Faults}
+use Rattle.m386_opmap.specs.declared.op.Op.{Op}
+use Rattle.m386_state.specs.declared.proc.Proc.{Proc}
+use Rattle.m386_access.specs.declared.ran.Ran.{Ran}
+use Rattle.m386_gates.specs.Near.{near_of, near_phrase}
+use Rattle.m386_gates.specs.declared.near.Near.{Near}
+
+-- one case for each group
+abbrev pub transfer_phrase : Option Near → Op → Proc → Phrase Ran
+transfer_phrase (Some near) op p = near_phrase near op p
+transfer_phrase None op p = Faults undefined_opcode_of
+
+-- whether an operation is one of this crate's
+unfoldable pub takes : Op → Bool
+takes op = is_some (near_of op.name)
+
+-- An operation of this crate, with EIP behind it. A fault is seen in the state before the instruction; one that is found
+-- beside a state is seen in that one.
+-- Source: Intel 80386 PRM 17.2.2.11; #UD: docs/DECISIONS.md, "Operations that aren't built"
+unfoldable pub exec_phrase : Op → Proc → Phrase Ran
+exec_phrase op p = transfer_phrase (near_of op.name) op p

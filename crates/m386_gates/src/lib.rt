@@ -1,0 +1,6 @@
+//! Near transfers: JMP to a relative target.
+#![tactic(auto)]
+
+pub mod exec;
+pub mod laws;
+pub mod near;
