@@ -208,11 +208,10 @@ fn reports_the_cycles_of_a_run(rt: HostRuntime) -> Result<(), Fail> {
         ),
         (
             "an operation that isn't built",
-            &[0x05, 0x78, 0x56, 0x34, 0x12, 0xf4],
+            &[0xe5, 0x78, 0x56, 0x34, 0x12, 0xf4],
             "--steps=1",
             &[
-                "c 0 m r . fetch 00 00001000 f 34567805",
-                "c 0 m r . fetch 00 00001004 f 0000f412",
+                "c 0 m r . fetch 00 00001000 f 345678e5",
             ],
             "running steps 1 eip 00001000 efl 00000002 eax 00000000",
             "06 -",

@@ -4,6 +4,7 @@
 
 pub mod ask;
 pub mod bus;
+pub mod bytes;
 pub mod desc;
 pub mod exception;
 pub mod fault;

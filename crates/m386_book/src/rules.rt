@@ -2,8 +2,9 @@
 ghost use Rattle.std.specs.Prelude.{◌≡◌, ℕ, ◌↔◌, IsTrue, MatchOption};
 ghost use Rattle.m386_book.specs.Rules.{FailsAt, GdtIsOutside, LoadsGdtr, ReadsNt, WritesTable};
 
-use crate::bytes::{has_nt, touches};
+use crate::bytes::touches;
 use m386_base::ask::{Cycle, Role, Space};
+use m386_base::bytes::has_nt;
 use m386_image::image::Image;
 
 /// Whether the GDT doesn't lie inside memory.

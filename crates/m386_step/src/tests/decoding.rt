@@ -102,10 +102,10 @@ fn an_operation_that_isnt_built_is_fetched_whole(rt: HostRuntime) {
     let last = at(&p, 0x1003);
     let cases = [
         Case {
-            name: "ADD EAX, 12345678h",
+            name: "IN EAX, 78h, before a number of its own",
             before: p,
-            code: &[0x05, 0x78, 0x56, 0x34, 0x12],
-            cycles: &[fetch(0x1000, 0x3456_7805), fetch(0x1004, 0x12)],
+            code: &[0xe5, 0x78, 0x56, 0x34, 0x12],
+            cycles: &[fetch(0x1000, 0x3456_78e5)],
             after: pending(&p, 6, None),
         },
         Case {
@@ -116,17 +116,17 @@ fn an_operation_that_isnt_built_is_fetched_whole(rt: HostRuntime) {
             after: pending(&last, 6, None),
         },
         Case {
-            name: "MOV EAX, DS:[1010h], with its prefix",
+            name: "LGDT DS:[1010h], with its prefix",
             before: p,
-            code: &[0x3e, 0xa1, 0x10, 0x10, 0, 0],
-            cycles: &[fetch(0x1000, 0x1010_a13e), fetch(0x1004, 0)],
+            code: &[0x3e, 0x0f, 0x01, 0x15, 0x10, 0x10, 0, 0],
+            cycles: &[fetch(0x1000, 0x1501_0f3e), fetch(0x1004, 0x1010)],
             after: pending(&p, 6, None),
         },
         Case {
-            name: "MOV AX, 5678h",
+            name: "PUSH 5678h, of 16 bits",
             before: p,
-            code: &[0x66, 0xb8, 0x78, 0x56],
-            cycles: &[fetch(0x1000, 0x5678_b866)],
+            code: &[0x66, 0x68, 0x78, 0x56],
+            cycles: &[fetch(0x1000, 0x5678_6866)],
             after: pending(&p, 6, None),
         },
     ];
