@@ -9,6 +9,7 @@ pub mod Growth
 pub mod Lanes
 pub mod Masks
 pub mod Matched
+pub mod Members
 pub mod Moved
 pub mod Phrases
 pub mod Plain

@@ -1,7 +1,7 @@
 //! What is known of a task switch when its checks are made, and how a check fails.
 use m386_base::desc::Desc;
 use m386_base::fault::Fault;
-use m386_base::kind::SwitchKind;
+pub use m386_base::kind::SwitchKind;
 
 /// All that the checks of one switch read. A descriptor is `None` where its selector is null or lies outside its table.
 #[derive(Clone, Copy, Debug, PartialEq, Eq)]

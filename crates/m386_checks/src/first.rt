@@ -3,11 +3,10 @@ ghost use Rattle.std.specs.Prelude.{◌≡◌, ◌<◌, ◌↔◌, IsNone, IfSom
 ghost use Rattle.m386_checks.specs.First.{AllChecksHold, context_of, first_false, first_fail_of, old_fail_of, for_segment, for_segments, data_segments, in_order};
 ghost use Rattle.m386_checks.specs.Table.{exception_of, error_code_of, seg_of, fail_of};
 
-use crate::facts::{Facts, Fail};
-use m386_base::exception::Exception;
-use m386_base::kind::SwitchKind;
+use crate::facts::{Facts, Fail, SwitchKind};
 use crate::holds::{holds, selector};
 use crate::table::{ROWS, Raises, Row, Subject};
+use m386_base::exception::Exception;
 use m386_base::segments::{CS, DS, ES, FS, GS, SS};
 use m386_desc::selector::error_code;
 

@@ -3,8 +3,7 @@ ghost use Rattle.std.specs.Prelude.{◌≡◌, ◌<◌, None};
 ghost use Rattle.m386_checks.specs.Holds.{test_holds, given, is_tss, is_marked, has_all_fields, is_ldt, is_reached_from, runs_at, has_level, may_be_data_from, holds_offset, is_start, is_jump, mark_wanted, new_cpl, selector_at, descriptor_at};
 ghost use Rattle.m386_desc.specs.Access.{is_code_32, is_present, is_readable, is_writable};
 
-use crate::facts::Facts;
-use m386_base::kind::SwitchKind;
+use crate::facts::{Facts, SwitchKind};
 use crate::table::Test;
 use m386_base::desc::Desc;
 use m386_base::segments::{CS, SS};

@@ -1,8 +1,7 @@
 //! The check table at work: each row, each data segment register, and the order.
 ghost use Rattle.std.specs.Prelude.{◌<◌};
 
-use crate::facts::{Context, Facts, Fail};
-use m386_base::kind::SwitchKind;
+use crate::facts::{Context, Facts, Fail, SwitchKind};
 use crate::first::{first_fail, old_fail};
 use m386_base::desc::Desc;
 use m386_base::fault::Fault;

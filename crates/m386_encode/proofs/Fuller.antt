@@ -21,7 +21,7 @@ use Rattle.m386_opmap.specs.declared.row.Size.{Size}
 use Rattle.m386_opmap.specs.Forms.{bytes_in, number, extended}
 use Rattle.m386_opmap.specs.Opcodes.{opcode_rows}
 use Rattle.m386_opmap.specs.Operands.{operand_value, operand_length, has_modrm, wants_memory, wants_register}
-use Rattle.m386_opmap.proofs.Table.{contains_first, contains_later}
+use Rattle.m386_base.proofs.Members.{contains_first, contains_later}
 use Rattle.m386_encode.specs.Candidates.{lowest, is_low}
 use Rattle.m386_encode.specs.Wide.{is_always_near, is_full, HasFullRow}
 use Rattle.m386_encode.proofs.InFull.{bytes_next, number_again, extended_fits, distance_again}

@@ -1,21 +1,11 @@
 -- What a table whose rows rise has: no two rows for one key, and a search finds the row of a key.
-use Rattle.std.proofs.Common.{◌≡◌, ℕ, zero, suc, ◌+◌, ◌≤◌, ◌⊎◌, inl, inr, List, [], ◌∷◌, refl, sym, ◌∙◌, cond, Bool, true, false, ◌&&◌, nat_le, Some, arith, subst}
+use Rattle.std.proofs.Common.{◌≡◌, ℕ, ◌+◌, ◌≤◌, inl, inr, List, [], ◌∷◌, refl, sym, ◌∙◌, cond, Bool, true, false, ◌&&◌, nat_le, Some, arith, subst}
 use Rattle.std.specs.List.{find, Contains}
 use Rattle.std.proofs.lemmas.Bool.{and_parts, leb-true}
+use Rattle.m386_base.proofs.Members.{contains_cases, contains_first, contains_later}
 use Rattle.m386_opmap.specs.declared.row.Row.{Row}
 use Rattle.m386_opmap.specs.Opcodes.{opcode_rows}
 use Rattle.m386_opmap.specs.Rows.{Covers, rising_from}
-
--- an element is the first or one of the others
-pub contains_cases : {X : Type 0} (x : X) (xs : List X) (y : X) → Contains (x ∷ xs) y → (x ≡ y) ⊎ Contains xs y
-contains_cases x xs y (zero, h, e) = inl e
-contains_cases x xs y (suc k, h, e) = inr (k, omega arith, e)
-
-pub contains_first : {X : Type 0} (x : X) (xs : List X) → Contains (x ∷ xs) x
-contains_first x xs = (0, omega arith, refl)
-
-pub contains_later : {X : Type 0} (x : X) (xs : List X) (y : X) → Contains xs y → Contains (x ∷ xs) y
-contains_later x xs y (k, h, e) = (suc k, omega arith, e)
 
 -- the bounds of a row in a table that rises
 pub rising_bounds : (least : ℕ) (rows : List Row) (r : Row) → rising_from least rows ≡ true → Contains rows r → (least ≤ r.low) × (r.low ≤ r.high)

@@ -8,7 +8,7 @@ use Rattle.m386_base.specs.Bus.{cycle_of}
 use Rattle.m386_base.specs.Laws.{Obeys}
 use Rattle.m386_base.specs.Phrase.{Phrase, Done, Faults, Asks, Begins, ◌>>=◌, either, matches, answer_of, role_number, follow, Whole, Wants, Wrong}
 use Rattle.m386_base.proofs.Phrases.{matches-cycle_of}
-use Rattle.m386_opmap.proofs.Table.{contains_first, contains_later}
+use Rattle.m386_base.proofs.Members.{contains_first, contains_later}
 use Rattle.m386_step.specs.Once.{is_fetch, IsAnew, with_fetched, FetchesOnce, groups_fetched, FetchesDiffer}
 
 -- a cycle has the role and the address of the ask that it was made of

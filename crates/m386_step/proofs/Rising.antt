@@ -8,7 +8,7 @@ use Rattle.m386_decode.specs.declared.decoded.Decoded.{Decoded}
 use Rattle.m386_opmap.specs.declared.outcome.Reading.{Reading}
 use Rattle.m386_opmap.specs.declared.outcome.Reading.TheVariants.{Spelled, More, Refused}
 use Rattle.m386_opmap.specs.Readings.{reading_of}
-use Rattle.m386_opmap.proofs.Table.{contains_cases}
+use Rattle.m386_base.proofs.Members.{contains_cases}
 use Rattle.m386_step.specs.declared.fetch.Reader.{Reader}
 use Rattle.m386_step.specs.Code.{read_on, further_phrase, decode_phrase}
 use Rattle.m386_base.specs.Exceptions.{general_protection_of}
