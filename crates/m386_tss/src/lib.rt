@@ -3,3 +3,5 @@
 
 pub mod fields;
 pub mod orders;
+#[cfg(test)]
+mod tests;

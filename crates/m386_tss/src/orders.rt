@@ -30,33 +30,3 @@ pub fn load_order() -> ArrayVec<u8, 18>
     }
     order
 }
-
-#[cfg(test)]
-mod tests {
-    use super::*;
-    use crate::fields::{MAP, tss_field};
-
-    #[test]
-    fn orders_and_places(rt: HostRuntime) {
-        let saved = save_order();
-        let loaded = load_order();
-        assert_eq!(rt; (saved.len(), loaded.len()), (16, 18));
-        assert_eq!(rt;
-            (saved[0], saved[15], loaded[0], loaded[17]),
-            (8, 23, 8, 25)
-        );
-        for (number, offset, len) in [
-            (EIP, 0x20, 4),
-            (23, 0x5c, 2),
-            (LDT, 0x60, 2),
-            (MAP, 0x66, 2),
-        ] {
-            assert!(rt; number < 27);
-            let field = tss_field(number);
-            assert_eq!(rt;
-                (field.number, field.offset, field.len),
-                (number, offset, len)
-            );
-        }
-    }
-}
