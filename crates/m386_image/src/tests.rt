@@ -58,43 +58,119 @@ fn reads_an_image_and_writes_it_back(rt: HostRuntime) -> Result<(), Fail> {
     Ok(())
 }
 
+/// How many of the first bytes of `BARE` are kept, which are replaced, what stands behind them, and the fault.
+static FAULTY: [(usize, &[(usize, u8)], &[u8], ImageFault); 58] = [
+    (63, &[], &[], ImageFault::ShortHeader),
+    (63, &[(0, 0)], &[], ImageFault::ShortHeader),
+    (83, &[(3, 0x37)], &[], ImageFault::Magic),
+    (83, &[(3, 0x37), (4, 2)], &[], ImageFault::Magic),
+    (83, &[(4, 2)], &[], ImageFault::Version),
+    (83, &[(5, 1), (9, 0)], &[], ImageFault::Version),
+    (83, &[(9, 0)], &[], ImageFault::MemorySize),
+    (83, &[(8, 1)], &[], ImageFault::MemorySize),
+    (
+        83,
+        &[(9, 0x10), (11, 1), (6, 0)],
+        &[],
+        ImageFault::MemorySize,
+    ),
+    (83, &[(6, 0)], &[], ImageFault::Processors),
+    (83, &[(6, 9), (7, 1)], &[], ImageFault::Processors),
+    (83, &[(7, 1)], &[], ImageFault::Flags),
+    (82, &[(7, 0x80)], &[], ImageFault::Flags),
+    (82, &[], &[], ImageFault::Truncated),
+    (83, &[(28, 2)], &[], ImageFault::Truncated),
+    (83, &[(24, 1)], &[], ImageFault::Truncated),
+    (83, &[(24, 1), (28, 0)], &[], ImageFault::PlanOrder),
+    (83, &[(64, 0xf6), (65, 0x3f)], &[], ImageFault::Section),
+    (83, &[(64, 0xf6), (65, 0x3f)], &[0], ImageFault::Section),
+    (
+        83,
+        &[(28, 2)],
+        &[0x0a, 0x10, 0, 0, 0, 0, 0, 0],
+        ImageFault::Section,
+    ),
+    (83, &[], &[0], ImageFault::Trailing),
+    (83, &[(28, 0)], &[], ImageFault::Trailing),
+    (0, &[], &[], ImageFault::ShortHeader),
+    (64, &[(28, 0), (0, 0x4e)], &[], ImageFault::Magic),
+    (83, &[(0, 0x6d)], &[], ImageFault::Magic),
+    (83, &[(1, 0x34)], &[], ImageFault::Magic),
+    (83, &[(2, 0x39)], &[], ImageFault::Magic),
+    (83, &[(4, 0)], &[], ImageFault::Version),
+    (83, &[(4, 0), (5, 1)], &[], ImageFault::Version),
+    (
+        83,
+        &[(4, 3), (9, 1), (6, 0), (7, 0xff)],
+        &[],
+        ImageFault::Version,
+    ),
+    // Memory: nothing, one page less a byte, one and a half, one beyond the most, and the greatest number.
+    (83, &[(9, 0x08)], &[], ImageFault::MemorySize),
+    (83, &[(8, 0xff), (9, 0x0f)], &[], ImageFault::MemorySize),
+    (83, &[(9, 0x18)], &[], ImageFault::MemorySize),
+    (83, &[(9, 0), (10, 0), (11, 2)], &[], ImageFault::MemorySize),
+    (
+        83,
+        &[(9, 0xf0), (10, 0xff), (11, 0xff)],
+        &[],
+        ImageFault::MemorySize,
+    ),
+    (83, &[(6, 9)], &[], ImageFault::Processors),
+    (83, &[(6, 0xff), (28, 2)], &[], ImageFault::Processors),
+    (83, &[(7, 2)], &[], ImageFault::Flags),
+    (83, &[(6, 8), (7, 0x40)], &[], ImageFault::Flags),
+    (83, &[(6, 8), (7, 0x80), (28, 9)], &[], ImageFault::Flags),
+    // A plan's entries have eight bytes each, and a section's head has eight.
+    (64, &[(24, 1), (28, 0)], &[0; 7], ImageFault::Truncated),
+    (64, &[(24, 1), (28, 0)], &[0; 8], ImageFault::PlanOrder),
+    (64, &[(24, 2), (28, 0)], &[0; 15], ImageFault::Truncated),
+    (64, &[(24, 2), (28, 0)], &[0; 16], ImageFault::PlanOrder),
+    (64, &[(24, 1), (28, 0)], &[0; 9], ImageFault::PlanOrder),
+    (
+        64,
+        &[(24, 0), (27, 0x20), (28, 0)],
+        &[0; 16],
+        ImageFault::Truncated,
+    ),
+    (64, &[(28, 1)], &[0; 7], ImageFault::Truncated),
+    (64, &[(28, 0), (31, 0x80)], &[0; 16], ImageFault::Truncated),
+    (71, &[], &[], ImageFault::Truncated),
+    (83, &[(71, 0x80)], &[], ImageFault::Truncated),
+    (83, &[(69, 1)], &[], ImageFault::Truncated),
+    // A section that ends one byte past memory, or far past, or begins one byte below the end of that before it.
+    (83, &[(66, 1)], &[], ImageFault::Section),
+    (
+        83,
+        &[(64, 0xff), (65, 0xff), (66, 0xff), (67, 0xff)],
+        &[],
+        ImageFault::Section,
+    ),
+    (
+        83,
+        &[(28, 2)],
+        &[0x0a, 0x10, 0, 0, 1, 0, 0, 0, 7],
+        ImageFault::Section,
+    ),
+    (
+        83,
+        &[(28, 2)],
+        &[0x00, 0x10, 0, 0, 0, 0, 0, 0, 9],
+        ImageFault::Section,
+    ),
+    (
+        83,
+        &[(28, 2)],
+        &[0x01, 0x40, 0, 0, 0, 0, 0, 0],
+        ImageFault::Section,
+    ),
+    (64, &[(28, 0)], &[0], ImageFault::Trailing),
+    (83, &[], &[0, 0x20, 0, 0, 0, 0, 0, 0], ImageFault::Trailing),
+];
+
 #[test]
 fn tells_the_first_fault(rt: HostRuntime) -> Result<(), Fail> {
-    let rows: [(usize, &[(usize, u8)], &[u8], ImageFault); 22] = [
-        (63, &[], &[], ImageFault::ShortHeader),
-        (63, &[(0, 0)], &[], ImageFault::ShortHeader),
-        (83, &[(3, 0x37)], &[], ImageFault::Magic),
-        (83, &[(3, 0x37), (4, 2)], &[], ImageFault::Magic),
-        (83, &[(4, 2)], &[], ImageFault::Version),
-        (83, &[(5, 1), (9, 0)], &[], ImageFault::Version),
-        (83, &[(9, 0)], &[], ImageFault::MemorySize),
-        (83, &[(8, 1)], &[], ImageFault::MemorySize),
-        (
-            83,
-            &[(9, 0x10), (11, 1), (6, 0)],
-            &[],
-            ImageFault::MemorySize,
-        ),
-        (83, &[(6, 0)], &[], ImageFault::Processors),
-        (83, &[(6, 9), (7, 1)], &[], ImageFault::Processors),
-        (83, &[(7, 1)], &[], ImageFault::Flags),
-        (82, &[(7, 0x80)], &[], ImageFault::Flags),
-        (82, &[], &[], ImageFault::Truncated),
-        (83, &[(28, 2)], &[], ImageFault::Truncated),
-        (83, &[(24, 1)], &[], ImageFault::Truncated),
-        (83, &[(24, 1), (28, 0)], &[], ImageFault::PlanOrder),
-        (83, &[(64, 0xf6), (65, 0x3f)], &[], ImageFault::Section),
-        (83, &[(64, 0xf6), (65, 0x3f)], &[0], ImageFault::Section),
-        (
-            83,
-            &[(28, 2)],
-            &[0x0a, 0x10, 0, 0, 0, 0, 0, 0],
-            ImageFault::Section,
-        ),
-        (83, &[], &[0], ImageFault::Trailing),
-        (83, &[(28, 0)], &[], ImageFault::Trailing),
-    ];
-    for (keep, edits, more, fault) in rows {
+    for (keep, edits, more, fault) in FAULTY.iter().copied() {
         let bytes = edited(rt.alloc(), keep, edits, more)?;
         let stop = read_image(rt.alloc(), &bytes).err();
         assert_eq!(rt;
@@ -109,17 +185,97 @@ fn tells_the_first_fault(rt: HostRuntime) -> Result<(), Fail> {
 }
 
 #[test]
-fn takes_sections_that_touch_and_ignores_absent_starts(rt: HostRuntime) -> Result<(), Fail> {
-    let rows: [(&[(usize, u8)], &[u8], usize); 3] = [
-        (&[(64, 0xf5), (65, 0x3f)], &[], 1),
-        (&[(28, 2)], &[0x0b, 0x10, 0, 0, 0, 0, 0, 0], 2),
-        (&[(36, 0xff), (63, 0xff)], &[], 1),
+fn takes_the_limits(rt: HostRuntime) -> Result<(), Fail> {
+    // The edits, what stands behind them, and the memory, the processors and how many sections are read.
+    let rows: [(&[(usize, u8)], &[u8], u32, u8, usize); 10] = [
+        (&[(64, 0xf5), (65, 0x3f)], &[], 16_384, 1, 1),
+        (&[(28, 2)], &[0x0b, 0x10, 0, 0, 0, 0, 0, 0], 16_384, 1, 2),
+        (&[(28, 2)], &[0, 0x40, 0, 0, 0, 0, 0, 0], 16_384, 1, 2),
+        (&[(36, 0xff), (63, 0xff)], &[], 16_384, 1, 1),
+        (&[(9, 0x10), (64, 0), (65, 0)], &[], 4_096, 1, 1),
+        (&[(9, 0x20)], &[], 8_192, 1, 1),
+        (&[(9, 0x50)], &[], 20_480, 1, 1),
+        (&[(9, 0), (11, 1)], &[], 16_777_216, 1, 1),
+        (&[(9, 0xf0), (10, 0xff)], &[], 16_773_120, 1, 1),
+        (
+            &[(9, 0x10), (64, 0), (65, 0), (28, 2)],
+            &[0xf0, 0x0f, 0, 0, 0, 0, 0, 0],
+            4_096,
+            1,
+            2,
+        ),
     ];
-    for (edits, more, sections) in rows {
+    for (edits, more, memory, cpus, sections) in rows {
         let bytes = edited(rt.alloc(), 83, edits, more)?;
         let image = read_image(rt.alloc(), &bytes)?;
-        assert_eq!(rt; image.sections.as_slice().len(), sections);
+        assert_eq!(rt;
+            (image.memory, image.cpus, image.sections.as_slice().len()),
+            (memory, cpus, sections),
+            "{memory} bytes"
+        );
         assert_eq!(rt; image.starts, [0x1000, 0, 0, 0, 0, 0, 0, 0]);
     }
     Ok(())
+}
+
+/// Each number of the header by itself, of eight processors and of two sections.
+const APART: [u8; 89] = [
+    0x4d, 0x33, 0x38, 0x36, 0x01, 0x00, 0x08, 0x00, 0x00, 0xa0, 0x10, 0x00, 0x21, 0x32, 0x43, 0x54,
+    0x65, 0x76, 0x87, 0x98, 0xa9, 0xba, 0xcb, 0xdc, 0x00, 0x00, 0x00, 0x00, 0x02, 0x00, 0x00, 0x00,
+    0x01, 0x02, 0x03, 0x04, 0x05, 0x06, 0x07, 0x08, 0x09, 0x0a, 0x0b, 0x0c, 0x0d, 0x0e, 0x0f, 0x10,
+    0x11, 0x12, 0x13, 0x14, 0x15, 0x16, 0x17, 0x18, 0x19, 0x1a, 0x1b, 0x1c, 0x1d, 0x1e, 0x1f, 0x20,
+    0x34, 0x12, 0x00, 0x00, 0x02, 0x00, 0x00, 0x00, 0xe1, 0xe2, 0x78, 0x56, 0x10, 0x00, 0x07, 0x00,
+    0x00, 0x00, 0xd1, 0xd2, 0xd3, 0xd4, 0xd5, 0xd6, 0xd7,
+];
+
+#[test]
+fn each_number_has_its_place(rt: HostRuntime) -> Result<(), Fail> {
+    let image = read_image(rt.alloc(), &APART)?;
+    assert_eq!(rt;
+        (image.memory, image.cpus, image.flags),
+        (0x0010_a000, 8, 0)
+    );
+    assert_eq!(rt; (image.gdt.base, image.gdt.limit), (0x5443_3221, 0x7665));
+    assert_eq!(rt; (image.idt.base, image.idt.limit), (0xdccb_baa9, 0x9887));
+    assert_eq!(rt;
+        image.starts,
+        [
+            0x0403_0201,
+            0x0807_0605,
+            0x0c0b_0a09,
+            0x100f_0e0d,
+            0x1413_1211,
+            0x1817_1615,
+            0x1c1b_1a19,
+            0x201f_1e1d
+        ]
+    );
+    let wanted: [(u32, &[u8]); 2] = [
+        (0x1234, &[0xe1, 0xe2]),
+        (0x0010_5678, &[0xd1, 0xd2, 0xd3, 0xd4, 0xd5, 0xd6, 0xd7]),
+    ];
+    assert_eq!(rt; image.sections.as_slice().len(), 2);
+    for (section, (addr, bytes)) in image.sections.as_slice().iter().zip(wanted) {
+        assert_eq!(rt; section.addr, addr);
+        assert_eq!(rt; section.bytes.as_slice(), bytes);
+    }
+    Ok(())
+}
+
+#[test]
+fn faults_have_numbers_and_names(rt: HostRuntime) {
+    for (fault, number, name) in [
+        (ImageFault::ShortHeader, 1, "ShortHeader"),
+        (ImageFault::Magic, 2, "Magic"),
+        (ImageFault::Version, 3, "Version"),
+        (ImageFault::MemorySize, 4, "MemorySize"),
+        (ImageFault::Processors, 5, "Processors"),
+        (ImageFault::Flags, 6, "Flags"),
+        (ImageFault::Truncated, 7, "Truncated"),
+        (ImageFault::PlanOrder, 8, "PlanOrder"),
+        (ImageFault::Section, 9, "Section"),
+        (ImageFault::Trailing, 10, "Trailing"),
+    ] {
+        assert_eq!(rt; (fault.number(), fault.name()), (number, name));
+    }
 }
