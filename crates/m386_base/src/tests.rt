@@ -3,14 +3,14 @@ ghost use Rattle.std.specs.Prelude.{◌≡◌, false};
 ghost use Rattle.m386_base.specs.declared.ask.Role.TheVariants as roles;
 ghost use Rattle.m386_base.specs.declared.ask.Space.TheVariants as spaces;
 
-use crate::ask::{Ask, Role, Space};
+use crate::ask::{Ask, Role, Space, answered};
 use crate::bus::Bus;
 use crate::desc::Desc;
 use crate::fault::Stop;
 use crate::laws::access_laws;
 use crate::list::List;
 use crate::probe::ProbeBus;
-use crate::split::{Piece, gather, split, spread};
+use crate::split::{Piece, gather, mask_of, split, spread};
 use std::test::Fail;
 
 fn piece(addr: u32, enables: u8, place: u8) -> Piece
@@ -23,52 +23,124 @@ fn piece(addr: u32, enables: u8, place: u8) -> Piece
     }
 }
 
+/// An address of a group, its enables and the place of its first byte in the access.
+type Group = (u32, u8, u8);
+
+/// A space, an address and a length, and the one or two groups that an access to them has.
+static ACCESSES: [(Space, u32, u8, Group, Option<Group>); 22] = [
+    (Space::Memory, 0x2000, 1, (0x2000, 1, 0), None),
+    (Space::Memory, 0x2000, 2, (0x2000, 3, 0), None),
+    (Space::Memory, 0x2000, 4, (0x2000, 15, 0), None),
+    (Space::Memory, 0x2001, 1, (0x2000, 2, 0), None),
+    (Space::Memory, 0x2001, 2, (0x2000, 6, 0), None),
+    (
+        Space::Memory,
+        0x2001,
+        4,
+        (0x2000, 14, 0),
+        Some((0x2004, 1, 3)),
+    ),
+    (Space::Memory, 0x2002, 1, (0x2000, 4, 0), None),
+    (Space::Memory, 0x2002, 2, (0x2000, 12, 0), None),
+    (
+        Space::Memory,
+        0x2002,
+        4,
+        (0x2000, 12, 0),
+        Some((0x2004, 3, 2)),
+    ),
+    (Space::Memory, 0x2003, 1, (0x2000, 8, 0), None),
+    (
+        Space::Memory,
+        0x2003,
+        2,
+        (0x2000, 8, 0),
+        Some((0x2004, 1, 1)),
+    ),
+    (
+        Space::Memory,
+        0x2003,
+        4,
+        (0x2000, 8, 0),
+        Some((0x2004, 7, 1)),
+    ),
+    (
+        Space::Memory,
+        0xffff,
+        2,
+        (0xfffc, 8, 0),
+        Some((0x1_0000, 1, 1)),
+    ),
+    (Space::Memory, 0x1_2345, 1, (0x1_2344, 2, 0), None),
+    (Space::Memory, 0xffff_ffff, 1, (0xffff_fffc, 8, 0), None),
+    (
+        Space::Memory,
+        0xffff_ffff,
+        4,
+        (0xffff_fffc, 8, 0),
+        Some((0, 7, 1)),
+    ),
+    (
+        Space::Memory,
+        0xffff_fffd,
+        4,
+        (0xffff_fffc, 14, 0),
+        Some((0, 1, 3)),
+    ),
+    (Space::Port, 0xffff, 2, (0xfffc, 8, 0), Some((0, 1, 1))),
+    (Space::Port, 0xfffd, 4, (0xfffc, 14, 0), Some((0, 1, 3))),
+    (Space::Port, 0xffff, 1, (0xfffc, 8, 0), None),
+    (Space::Port, 0x1_0003, 2, (0, 8, 0), Some((4, 1, 1))),
+    (Space::Port, 0x3f9, 1, (0x3f8, 2, 0), None),
+];
+
+/// The address, the enables and the place of a group.
+fn numbers(piece: &Piece) -> Group {
+    (piece.addr, piece.enables, piece.place)
+}
+
 #[test]
 fn an_access_has_one_or_two_groups(rt: HostRuntime) {
     access_laws();
-    let memory = Space::Memory;
-    let port = Space::Port;
-    let cases = [
-        (memory, 0x2000, 4, piece(0x2000, 15, 0), None),
-        (memory, 0x2001, 2, piece(0x2000, 6, 0), None),
-        (memory, 0x2003, 1, piece(0x2000, 8, 0), None),
-        (
-            memory,
-            0x2003,
-            4,
-            piece(0x2000, 8, 0),
-            Some(piece(0x2004, 7, 1)),
-        ),
-        (
-            memory,
-            0x2002,
-            4,
-            piece(0x2000, 12, 0),
-            Some(piece(0x2004, 3, 2)),
-        ),
-        (
-            memory,
-            0xffff_fffd,
-            4,
-            piece(0xffff_fffc, 14, 0),
-            Some(piece(0, 1, 3)),
-        ),
-        (
-            memory,
-            0xffff,
-            2,
-            piece(0xfffc, 8, 0),
-            Some(piece(0x1_0000, 1, 1)),
-        ),
-        (port, 0xffff, 2, piece(0xfffc, 8, 0), Some(piece(0, 1, 1))),
-        (port, 0x3f9, 1, piece(0x3f8, 2, 0), None),
-    ];
-    for (space, addr, len, first, second) in cases {
+    for (space, addr, len, first, second) in ACCESSES.iter().copied() {
         assert!(rt; len == 1 || len == 2 || len == 4);
         let groups = split(space, addr, len);
-        assert_eq!(rt; groups.first(), Some(&first), "first of {addr:x}");
-        assert_eq!(rt; groups.get(1), second.as_ref(), "second of {addr:x}");
+        assert_eq!(rt;
+            groups.first().map(numbers),
+            Some(first),
+            "first of {addr:x}"
+        );
+        assert_eq!(rt; groups.get(1).map(numbers), second, "second of {addr:x}");
     }
+}
+
+#[test]
+fn enables_name_the_bytes_of_a_group(rt: HostRuntime) {
+    let masks = [
+        0,
+        0xff,
+        0xff00,
+        0xffff,
+        0x00ff_0000,
+        0x00ff_00ff,
+        0x00ff_ff00,
+        0x00ff_ffff,
+        0xff00_0000,
+        0xff00_00ff,
+        0xff00_ff00,
+        0xff00_ffff,
+        0xffff_0000,
+        0xffff_00ff,
+        0xffff_ff00,
+        0xffff_ffff,
+    ];
+    for enables in 0..16u8 {
+        assert_eq!(rt; mask_of(enables), masks[enables as usize], "{enables}");
+    }
+    let read = asked(false, 15, 0);
+    assert_eq!(rt; answered(read, 7), Ask { value: 7, ..read });
+    let write = asked(true, 15, 5);
+    assert_eq!(rt; answered(write, 7), write);
 }
 
 #[test]

@@ -45,28 +45,7 @@ fn second(alloc: Global, cycle: Cycle) -> Option<Verdict> {
 
 const AT_7: Option<Verdict> = Some(Verdict::At { rule: 7, index: 1 });
 
-const AT_8: Option<Verdict> = Some(Verdict::At { rule: 8, index: 1 });
-
 const CLEAN: Option<Verdict> = Some(Verdict::Clean);
-
-#[test]
-fn images(rt: HostRuntime) {
-    let alloc = rt.alloc();
-    assert_eq!(rt;
-        plain_verdict(&image(alloc, 0x3ff1, 14), &[]),
-        CLEAN,
-        "the last byte of memory"
-    );
-    assert_eq!(rt;
-        plain_verdict(&image(alloc, 0x3ff2, 14), &[]),
-        Some(Verdict::Static(1))
-    );
-    assert_eq!(rt;
-        plain_verdict(&image(alloc, 0x3ff2, 15), &[]),
-        None,
-        "a first descriptor"
-    );
-}
 
 #[test]
 fn loads_of_the_gdt_register(rt: HostRuntime) {
@@ -118,31 +97,119 @@ fn writes_at_the_gdt(rt: HostRuntime) {
     );
 }
 
+/// Each role, with the rule that a write of it to the GDT fails, and the rule that a read with NT set fails, 0 for none.
+static ROLES: [(Role, u8, u8); 25] = [
+    (Role::Fetch, 0, 0),
+    (Role::Operand, 7, 0),
+    (Role::Push, 7, 0),
+    (Role::Pop, 0, 0),
+    (Role::Flags, 0, 8),
+    (Role::Gdt, 0, 0),
+    (Role::Ldt, 0, 0),
+    (Role::Idt, 0, 0),
+    (Role::GdtAcc, 0, 0),
+    (Role::LdtAcc, 7, 0),
+    (Role::Tss, 0, 0),
+    (Role::ClaimJmp, 0, 0),
+    (Role::ClaimCall, 0, 0),
+    (Role::ClaimStart, 0, 0),
+    (Role::ClaimLtr, 0, 0),
+    (Role::Save, 0, 0),
+    (Role::Link, 0, 0),
+    (Role::Back, 0, 0),
+    (Role::RelJmp, 0, 0),
+    (Role::RelRet, 0, 0),
+    (Role::Load, 0, 0),
+    (Role::Inner, 0, 0),
+    (Role::Map, 0, 0),
+    (Role::Lgdt, 6, 6),
+    (Role::Lidt, 0, 0),
+];
+
+/// The failure of a rule at the second cycle, or none.
+fn failure(rule: u8) -> Option<Verdict> {
+    if rule == 0 {
+        CLEAN
+    } else {
+        Some(Verdict::At { rule, index: 1 })
+    }
+}
+
 #[test]
-fn flags_with_nt(rt: HostRuntime) {
+fn each_role_fails_its_rule_alone(rt: HostRuntime) {
     let alloc = rt.alloc();
+    for (role, write, read) in ROLES.iter().copied() {
+        let stored = cycle(true, role, 0, 0x2004, 0xf, 0x4002);
+        assert_eq!(rt; second(alloc, stored), failure(write), "{role:?}");
+        let loaded = cycle(false, role, 0, 0x2004, 0xf, 0x4002);
+        assert_eq!(rt; second(alloc, loaded), failure(read), "{role:?}");
+        let mut port = stored;
+        port.ask.space = Space::Port;
+        let at_port = if write == 7 { 0 } else { write };
+        assert_eq!(rt;
+            second(alloc, port),
+            failure(at_port),
+            "{role:?} among the ports"
+        );
+    }
+}
+
+#[test]
+fn nt_is_a_bit_of_the_second_byte(rt: HostRuntime) {
+    // The part, the enables and the value of a read of flags, and the rule that fails.
+    for (part, enables, value, rule) in [
+        (0, 0xf, 0x0000_4000, 8),
+        (0, 0xf, 0xffff_bfff, 0),
+        (0, 3, 0x0000_4000, 8),
+        (0, 0xe, 0x0040_0000, 8),
+        (0, 6, 0x0040_0000, 8),
+        (0, 0xe, 0xffbf_ff00, 0),
+        (0, 0xc, 0x4000_0000, 8),
+        (0, 0xc, 0xbfff_0000, 0),
+        (0, 8, 0xff00_0000, 0),
+        (1, 7, 0x0000_0040, 8),
+        (1, 1, 0x0000_0040, 8),
+        (1, 7, 0x00ff_ffbf, 0),
+        (2, 3, 0x0000_ffff, 0),
+        (3, 1, 0x0000_00ff, 0),
+    ] {
+        let read = cycle(false, Role::Flags, part, 0x1000, enables, value);
+        assert_eq!(rt;
+            second(rt.alloc(), read),
+            failure(rule),
+            "part {part} enables {enables}"
+        );
+    }
+}
+
+#[test]
+fn images_with_a_table_of_any_place(rt: HostRuntime) {
+    let alloc = rt.alloc();
+    // Base and limit of the GDT, and what is said of an image of 16,384 bytes and no cycle.
+    for (base, limit, verdict) in [
+        (0, 0, CLEAN),
+        (0, 14, CLEAN),
+        (0, 15, None),
+        (0, 0xffff, None),
+        (0x3ff1, 14, CLEAN),
+        (0x3ff2, 14, Some(Verdict::Static(1))),
+        (0x3ff2, 15, None),
+        (0x3fff, 0, CLEAN),
+        (0x4000, 0, Some(Verdict::Static(1))),
+        (0x3ffd, 3, Some(Verdict::Static(1))),
+        (0xffff_ffff, 14, Some(Verdict::Static(1))),
+        (0xffff_fff8, 7, Some(Verdict::Static(1))),
+    ] {
+        assert_eq!(rt;
+            plain_verdict(&image(alloc, base, limit), &[]),
+            verdict,
+            "base {base}"
+        );
+    }
+    // A static rule comes before that of a cycle.
+    let load = cycle(false, Role::Lgdt, 0, 0x1000, 3, 0);
     assert_eq!(rt;
-        second(alloc, cycle(false, Role::Flags, 0, 0x1ffc, 0xf, 0x4002)),
-        AT_8
-    );
-    assert_eq!(rt;
-        second(alloc, cycle(false, Role::Flags, 0, 0x1ffc, 0xf, 0xbfff)),
-        CLEAN,
-        "NT is 0"
-    );
-    assert_eq!(rt;
-        second(alloc, cycle(false, Role::Flags, 1, 0x2000, 7, 0x40)),
-        AT_8,
-        "the second group"
-    );
-    assert_eq!(rt;
-        second(alloc, cycle(false, Role::Flags, 0, 0x1ffc, 8, 0x4000_0000)),
-        CLEAN,
-        "its first"
-    );
-    assert_eq!(rt;
-        second(alloc, cycle(false, Role::Pop, 0, 0x1ffc, 0xf, 0x4002)),
-        CLEAN,
-        "another role"
+        plain_verdict(&image(alloc, 0x4000, 0), &[load]),
+        Some(Verdict::Static(1))
     );
 }

@@ -1,5 +1,5 @@
 //! The states that processors begin in, number by number.
-use crate::proc::{Mode, Proc, start_bare, start_task};
+use crate::proc::{Mode, Proc, start_bare, start_task, unusable};
 use crate::segment::{Seg, TableReg};
 use m386_base::number::Flags;
 
@@ -54,6 +54,7 @@ fn a_bare_processor_has_flat_segments(rt: HostRuntime) {
 fn a_task_processor_has_no_segment_yet(rt: HostRuntime) {
     let p = start_task(0x28, GDTR, IDTR);
     let none = (0, false, 0, 0, 0, 0);
+    assert_eq!(rt; numbers(&unusable(0x2b)), (0x2b, false, 0, 0, 0, 0));
     for at in 0..6 {
         assert_eq!(rt; p.segs.get(at).map(numbers), Some(none), "segment {at}");
     }
