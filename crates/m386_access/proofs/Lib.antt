@@ -1,3 +1,4 @@
+pub mod Linked
 pub mod Phrases
 pub mod Pieces
 pub mod Popped

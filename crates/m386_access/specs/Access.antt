@@ -1,5 +1,5 @@
 -- Operands in memory.
-use Rattle.std.specs.Prelude.{ℕ, Bool, true, false, List, [], ◌∷◌, ◌+◌, ◌^◌, bit_or, nat_le, if◌then◌else◌}
+use Rattle.std.specs.Prelude.{ℕ, Bool, true, false, List, [], ◌∷◌, bit_or, if◌then◌else◌}
 use Rattle.m386_base.specs.declared.ask.Ask.{Ask}
 use Rattle.m386_base.specs.declared.ask.Space.TheVariants.{Memory}
 use Rattle.m386_base.specs.declared.ask.Role.{Role}
@@ -11,7 +11,6 @@ use Rattle.m386_opmap.specs.declared.op.Addr.{Addr}
 use Rattle.m386_state.specs.declared.proc.Proc.{Proc}
 use Rattle.m386_state.specs.Start.{seg_at}
 use Rattle.m386_access.specs.Address.{segment_number, offset_of, may_read, may_write, linear_of, access_fault_of}
-use Rattle.m386_base.specs.Exceptions.{general_protection_of}
 
 -- the groups of an operand
 abbrev pub memory_pieces : ℕ → ℕ → List Piece
@@ -39,26 +38,24 @@ writes role value (p ∷ ps) = do
   _ ← one (write_ask role false p value)
   writes role value ps
 
--- An operand read through a flat segment: a fault, and no cycle, where a byte passes FFFFFFFFh.
+-- Bytes read through a segment register: the fault of the first false test and no cycle, else their groups.
 -- Source: Intel 80386 PRM 6.3.1
-unfoldable pub read_phrase : Role → ℕ → ℕ → Phrase ℕ
-read_phrase role offset len = if nat_le (offset + len) (2 ^ 32) then reads role 0 (memory_pieces offset len) else Faults general_protection_of
+unfoldable pub read_phrase : Proc → Role → ℕ → ℕ → ℕ → Phrase ℕ
+read_phrase p role seg offset len =
+    let s = seg_at p seg in
+    if may_read s offset len then reads role 0 (memory_pieces (linear_of s offset) len) else Faults (access_fault_of seg)
 
--- an operand written through a flat segment
-unfoldable pub write_phrase : Role → ℕ → ℕ → ℕ → Phrase (Unit {0})
-write_phrase role offset len value = if nat_le (offset + len) (2 ^ 32) then writes role value (memory_pieces offset len) else Faults general_protection_of
-
--- An operand read through its segment: the fault of the first false test and no cycle, else its groups.
+-- Bytes written through a segment register.
 -- Source: Intel 80386 PRM 6.3.1
-unfoldable pub read_at_phrase : Proc → Addr → ℕ → Phrase ℕ
-read_at_phrase p a len =
-    let seg = segment_number a.seg a.base in
+unfoldable pub write_phrase : Proc → Role → ℕ → ℕ → ℕ → ℕ → Phrase (Unit {0})
+write_phrase p role seg offset len value =
     let s = seg_at p seg in
-    if may_read s (offset_of p a) len then reads Operand 0 (memory_pieces (linear_of s (offset_of p a)) len) else Faults (access_fault_of seg)
+    if may_write s offset len then writes role value (memory_pieces (linear_of s offset) len) else Faults (access_fault_of seg)
 
--- an operand written through its segment
-unfoldable pub write_at_phrase : Proc → Addr → ℕ → ℕ → Phrase (Unit {0})
-write_at_phrase p a len value =
-    let seg = segment_number a.seg a.base in
-    let s = seg_at p seg in
-    if may_write s (offset_of p a) len then writes Operand value (memory_pieces (linear_of s (offset_of p a)) len) else Faults (access_fault_of seg)
+-- a memory operand read
+abbrev pub read_at_phrase : Proc → Addr → ℕ → Phrase ℕ
+read_at_phrase p a len = read_phrase p Operand (segment_number a.seg a.base) (offset_of p a) len
+
+-- a memory operand written
+abbrev pub write_at_phrase : Proc → Addr → ℕ → ℕ → Phrase (Unit {0})
+write_at_phrase p a len value = write_phrase p Operand (segment_number a.seg a.base) (offset_of p a) len value

@@ -33,6 +33,11 @@ part_of p (Some register) = register_of p register
 unfoldable pub offset_of : Proc → Addr → ℕ
 offset_of p a = (part_of p a.base + part_of p a.index * a.scale + a.disp) % 2 ^ 32
 
+-- The segment register and the offset of an operand.
+-- Source: Intel 80386 PRM 2.5.3.2
+abbrev pub address_of : Proc → Addr → ℕ × ℕ
+address_of p a = (segment_number a.seg a.base, offset_of p a)
+
 -- Which tests an access passes: the segment is usable, has the right, and each byte is one of its offsets.
 -- Source: Intel 80386 PRM 6.3.1
 abbrev pub may_read : Seg → ℕ → ℕ → Bool

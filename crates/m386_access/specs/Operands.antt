@@ -1,43 +1,62 @@
--- The two operands of an operation.
+-- The operands of an operation, by their forms.
 use Rattle.std.specs.Prelude.{ℕ, List, [], ◌∷◌}
 use Rattle.m386_base.specs.declared.number.Width.{Width}
-use Rattle.m386_base.specs.declared.number.Width.TheVariants.{W8, W16, W32}
+use Rattle.m386_base.specs.Exceptions.{undefined_opcode_of}
+use Rattle.m386_base.specs.Phrase.{Phrase, Done, Faults, ◌>>=◌}
+use Rattle.m386_opmap.specs.declared.op.Addr.{Addr}
 use Rattle.m386_opmap.specs.declared.op.Arg.{Arg}
-use Rattle.m386_opmap.specs.declared.op.Arg.TheVariants.{Reg, Imm, Mem}
+use Rattle.m386_opmap.specs.declared.op.Arg.TheVariants as args
 use Rattle.m386_opmap.specs.declared.op.Op.{Op}
 use Rattle.m386_state.specs.declared.proc.Proc.{Proc}
-use Rattle.m386_access.specs.After.{register_of, register_at}
-use Rattle.m386_access.specs.declared.operands.Source.{Source}
-use Rattle.m386_access.specs.declared.operands.Source.TheVariants.{Register, Number}
+use Rattle.m386_access.specs.Access.{read_at_phrase, write_at_phrase}
+use Rattle.m386_access.specs.After.{len_of, register_at, with_register_at}
+use Rattle.m386_access.specs.declared.operands.Manner.{Manner}
+use Rattle.m386_access.specs.declared.operands.Operand.{Operand}
+use Rattle.m386_access.specs.declared.operands.Operand.TheVariants.{Register, Number, Memory, Other}
 use Rattle.m386_access.specs.declared.operands.Operands.{Operands}
-use Rattle.m386_access.specs.declared.operands.Operands.TheVariants.{ToRegister, FromMemory, ToMemory, Others}
+use Rattle.m386_access.specs.declared.operands.Operands.TheVariants.{Absent, One, Two, Three, Others}
 
--- the value of an operand that is no memory
-abbrev pub value_of : Proc → Source → ℕ
-value_of p (Register register) = register_of p register
-value_of p (Number number) = number
+-- how an operation takes its operands
+abbrev pub manner_of : Op → Manner
+manner_of op = record { width = op.width; lock = op.lock }
 
--- the same by its width
-abbrev pub value_at : Width → Proc → Source → ℕ
-value_at w p (Register register) = register_at w p register
-value_at w p (Number number) = number
+-- an operand
+abbrev pub operand_of : Arg → Operand
+operand_of (args.Reg register) = Register register
+operand_of (args.Imm number) = Number number
+operand_of (args.Mem a) = Memory a
+operand_of _ = Other
 
--- by their forms
-abbrev pub pair_of : List Arg → Operands
-pair_of (Reg register ∷ Reg source ∷ []) = ToRegister register (Register source)
-pair_of (Reg register ∷ Imm number ∷ []) = ToRegister register (Number number)
-pair_of (Reg register ∷ Mem a ∷ []) = FromMemory register a
-pair_of (Mem a ∷ Reg source ∷ []) = ToMemory a (Register source)
-pair_of (Mem a ∷ Imm number ∷ []) = ToMemory a (Number number)
-pair_of _ = Others
+-- by how many there are
+abbrev pub forms_of : List Arg → Operands
+forms_of [] = Absent
+forms_of (a ∷ []) = One (operand_of a)
+forms_of (a ∷ b ∷ []) = Two (operand_of a) (operand_of b)
+forms_of (a ∷ b ∷ c ∷ []) = Three (operand_of a) (operand_of b) (operand_of c)
+forms_of _ = Others
 
--- The two operands of an operation, the destination first.
+-- The operands of an operation, the destination first.
 unfoldable pub operands_of : Op → Operands
-operands_of op = pair_of op.args.items
+operands_of op = forms_of op.args.items
 
--- Those of 32 bits alone, for operations whose other widths aren't built.
--- Own choice: docs/DECISIONS.md, "Operations that aren't built"
-abbrev pub wide_of : Width → Operands → Operands
-wide_of W32 operands = operands
-wide_of W16 operands = Others
-wide_of W8 operands = Others
+-- An operand's value, by its width.
+-- Source: Intel 80386 PRM 2.5; #UD: docs/DECISIONS.md, "Operations that aren't built"
+unfoldable pub value_phrase : Width → Proc → Operand → Phrase ℕ
+value_phrase w p (Register register) = Done (register_at w p register)
+value_phrase w p (Number number) = Done number
+value_phrase w p (Memory a) = read_at_phrase p a (len_of w)
+value_phrase w p Other = Faults undefined_opcode_of
+
+-- memory put to a value
+unfoldable pub store_phrase : Width → Proc → Addr → ℕ → Phrase Proc
+store_phrase w p a value = do
+  _ ← write_at_phrase p a (len_of w) value
+  Done p
+
+-- The state with an operand put to a value, by its width.
+-- Source: Intel 80386 PRM 2.5; #UD: docs/DECISIONS.md, "Operations that aren't built"
+unfoldable pub put_phrase : Width → Proc → Operand → ℕ → Phrase Proc
+put_phrase w p (Register register) value = Done (with_register_at w p register value)
+put_phrase w p (Memory a) value = store_phrase w p a value
+put_phrase w p (Number number) value = Faults undefined_opcode_of
+put_phrase w p Other value = Faults undefined_opcode_of

@@ -1,7 +1,7 @@
 //! Where an operand in memory lies, and when it may be reached through its segment.
 ghost use Rattle.std.specs.Prelude.{◌≡◌, ◌≤◌};
 ghost use Rattle.m386_state.specs.Start.{seg_at};
-ghost use Rattle.m386_access.specs.Address.{default_segment, segment_number, part_of, offset_of, may_read, may_write, access_fault_of, linear_of};
+ghost use Rattle.m386_access.specs.Address.{default_segment, segment_number, part_of, offset_of, address_of, may_read, may_write, access_fault_of, linear_of};
 
 use crate::after::register_of;
 use m386_base::exception::{Exception, general_protection};
@@ -61,6 +61,13 @@ pub fn offset(p: &Proc, a: &Addr) -> u32
     part_of(p, a.base)
         .wrapping_add(part_of(p, a.index).wrapping_mul(u32::from(a.scale)))
         .wrapping_add(a.disp)
+}
+
+/// The number of the segment register and the offset of an operand (PRM 2.5.3.2).
+pub fn address(p: &Proc, a: &Addr) -> (u8, u32)
+    ensures { result ≡ address_of p.now a.now }
+{
+    (segment_number(a), offset(p, a))
 }
 
 /// Whether a read of so many bytes passes the tests.

@@ -1,112 +1,139 @@
-//! The two operands of an operation.
-ghost use Rattle.std.specs.Prelude.{◌≡◌};
-ghost use Rattle.m386_access.specs.Operands.{value_of, value_at, pair_of, operands_of, wide_of};
+//! The operands of an operation, by their forms.
+ghost use Rattle.std.specs.Prelude.{◌≡◌, false};
+ghost use Rattle.m386_base.specs.Phrase.{Performs, it};
+ghost use Rattle.m386_access.specs.Operands.{manner_of, operand_of, forms_of, operands_of, value_phrase, store_phrase, put_phrase};
 
-use crate::after::{register_at, register_of};
+use crate::access::{read_at, write_at};
+use crate::after::{len_of, register_at, with_register_at};
+use m386_base::bus::Bus;
+use m386_base::exception::undefined_opcode;
+use m386_base::fault::Break;
 use m386_base::number::Width;
 use m386_opmap::op::{Addr, Arg, Op};
 use m386_state::proc::Proc;
 
-/// An operand that is no memory.
+/// How an operation takes its operands.
 #[derive(Clone, Copy)]
-pub enum Source {
+pub struct Manner {
+    /// How wide they are.
+    pub width: Width,
+    /// Whether memory that is read and written is one locked group.
+    pub lock: bool,
+}
+
+/// An operand.
+#[derive(Clone, Copy)]
+pub enum Operand {
     /// A general register, by its number.
     Register(u8),
     /// A number.
     Number(u32),
+    /// Memory.
+    Memory(Addr),
+    /// Any other.
+    Other,
 }
 
-/// Two operands, the destination first.
+/// The operands of an operation, the destination first.
 #[derive(Clone, Copy)]
 pub enum Operands {
-    /// A register, and a register or a number.
-    ToRegister {
-        /// The register's number.
-        register: u8,
-        /// The second operand.
-        source: Source,
-    },
-    /// A register, and memory.
-    FromMemory {
-        /// The register's number.
-        register: u8,
-        /// The second operand.
-        address: Addr,
-    },
-    /// Memory, and a register or a number.
-    ToMemory {
-        /// The first operand.
-        address: Addr,
-        /// The second operand.
-        source: Source,
-    },
+    /// None.
+    Absent,
+    /// One.
+    One(Operand),
+    /// Two.
+    Two(Operand, Operand),
+    /// Three.
+    Three(Operand, Operand, Operand),
     /// Any others.
     Others,
 }
 
-/// The value of an operand that is no memory.
-pub fn value_of(p: &Proc, source: Source) -> u32
-    ensures { result ≡ value_of p.now source }
+/// How an operation takes its operands.
+pub fn manner_of(op: &Op) -> Manner
+    ensures { result ≡ manner_of op.now }
 {
-    match source {
-        Source::Register(register) => register_of(p, register),
-        Source::Number(number) => number,
+    Manner {
+        width: op.width,
+        lock: op.lock,
     }
 }
 
-/// The same by its width.
-pub fn value_at(width: Width, p: &Proc, source: Source) -> u32
-    ensures { result ≡ value_at width p.now source }
+/// An operand by its form.
+fn operand_of(arg: Arg) -> Operand
+    ensures { result ≡ operand_of arg }
 {
-    match source {
-        Source::Register(register) => register_at(width, p, register),
-        Source::Number(number) => number,
+    match arg {
+        Arg::Reg(register) => Operand::Register(register),
+        Arg::Imm(number) => Operand::Number(number),
+        Arg::Mem(address) => Operand::Memory(address),
+        Arg::Seg(_) | Arg::Cr0 | Arg::Rel(_) | Arg::Far { .. } => Operand::Other,
     }
 }
 
-/// Operands by their forms.
-fn pair_of(args: &[Arg]) -> Operands
-    ensures { result ≡ pair_of args.now }
+/// Operands by how many there are.
+fn forms_of(args: &[Arg]) -> Operands
+    ensures { result ≡ forms_of args.now }
 {
     match args {
-        [Arg::Reg(register), Arg::Reg(source)] => Operands::ToRegister {
-            register: *register,
-            source: Source::Register(*source),
-        },
-        [Arg::Reg(register), Arg::Imm(number)] => Operands::ToRegister {
-            register: *register,
-            source: Source::Number(*number),
-        },
-        [Arg::Reg(register), Arg::Mem(address)] => Operands::FromMemory {
-            register: *register,
-            address: *address,
-        },
-        [Arg::Mem(address), Arg::Reg(source)] => Operands::ToMemory {
-            address: *address,
-            source: Source::Register(*source),
-        },
-        [Arg::Mem(address), Arg::Imm(number)] => Operands::ToMemory {
-            address: *address,
-            source: Source::Number(*number),
-        },
+        [] => Operands::Absent,
+        [a] => Operands::One(operand_of(*a)),
+        [a, b] => Operands::Two(operand_of(*a), operand_of(*b)),
+        [a, b, c] => Operands::Three(operand_of(*a), operand_of(*b), operand_of(*c)),
         _ => Operands::Others,
     }
 }
 
-/// The two operands of an operation.
+/// The operands of an operation.
 #[tactic(auto, unfolding(crate::specs::Operands::operands_of))]
 pub fn operands_of(op: &Op) -> Operands
     ensures { result ≡ operands_of op.now }
 {
-    pair_of(op.args.as_slice())
+    forms_of(op.args.as_slice())
 }
 
-/// Those of 32 bits alone, for operations whose other widths aren't built.
-pub fn wide_of(width: Width, operands: Operands) -> Operands
-    ensures { result ≡ wide_of width operands }
+/// An operand's value, by its width. A fault as in `read`, or #UD for one that has none.
+#[tactic(auto, using(m386_base::proofs::Phrases::calls), unfolding(crate::specs::Operands::value_phrase))]
+pub fn value<B: Bus>(width: Width, p: &Proc, operand: Operand, bus: &mut B) -> Result<u32, Break>
+    requires free { (B.view bus.old).kept ≡ false }
+    ensures cycles { Performs (value_phrase width p.now operand) (B.view bus.old) (B.view bus.new) it result }
+    ensures free { (B.view bus.new).kept ≡ false }
 {
-    match width {
-        Width::W32 => operands,
-        Width::W16 | Width::W8 => Operands::Others,
+    match operand {
+        Operand::Register(register) => Ok(register_at(width, p, register)),
+        Operand::Number(number) => Ok(number),
+        Operand::Memory(address) => read_at(p, &address, len_of(width), bus),
+        Operand::Other => Err(Break::Fault(undefined_opcode())),
+    }
+}
+
+/// The state with memory put to a value.
+#[tactic(auto, using(m386_base::proofs::Phrases::calls), unfolding(crate::specs::Operands::store_phrase))]
+fn store<B: Bus>(width: Width, p: &Proc, a: &Addr, value: u32, bus: &mut B) -> Result<Proc, Break>
+    requires free { (B.view bus.old).kept ≡ false }
+    ensures cycles { Performs (store_phrase width p.now a.now value) (B.view bus.old) (B.view bus.new) it result }
+    ensures free { (B.view bus.new).kept ≡ false }
+{
+    write_at(p, a, len_of(width), value, bus)?;
+    Ok(*p)
+}
+
+/// The state with an operand put to a value, by its width. A fault as in `write`, or #UD for one that can't be put.
+#[tactic(auto, using(m386_base::proofs::Phrases::calls), unfolding(crate::specs::Operands::put_phrase))]
+pub fn put<B: Bus>(
+    width: Width,
+    p: &Proc,
+    operand: Operand,
+    value: u32,
+    bus: &mut B,
+) -> Result<Proc, Break>
+    requires free { (B.view bus.old).kept ≡ false }
+    ensures cycles { Performs (put_phrase width p.now operand value) (B.view bus.old) (B.view bus.new) it result }
+    ensures free { (B.view bus.new).kept ≡ false }
+{
+    match operand {
+        Operand::Register(register) => Ok(with_register_at(width, p, register, value)),
+        Operand::Memory(address) => store(width, p, &address, value, bus),
+        Operand::Number(_) | Operand::Other => Err(Break::Fault(undefined_opcode())),
     }
 }
