@@ -16,7 +16,7 @@ use Rattle.m386_base.specs.declared.number.Width.TheVariants.{W8, W16, W32}
 use Rattle.m386_access.specs.Access.{memory_pieces, read_ask, reads, writes, read_phrase, write_phrase}
 use Rattle.m386_access.specs.Address.{segment_number, offset_of, may_read, may_write, linear_of}
 use Rattle.m386_access.specs.After.{len_of, with_register, with_register_at}
-use Rattle.m386_access.specs.Modify.{linked_reads, linked_writes, exchange_phrase, modify_phrase, inspect_phrase}
+use Rattle.m386_access.specs.Modify.{linked_reads, linked_writes, modify_groups_phrase, modify_phrase, inspect_phrase}
 use Rattle.m386_access.specs.Operands.{value_phrase, store_phrase, put_phrase}
 use Rattle.m386_access.specs.Ordinary.{Ordinary, Reads, Writes, is_read_role, is_write_role, is_behind, is_nested, Keeps}
 use Rattle.m386_access.specs.declared.operands.Operand.{Operand}
@@ -112,9 +112,9 @@ all_linked_writes gdt (p ∷ ps) lock value ts h = (Writes refl refl (joined_beh
 two_linked_reads : (gdt : TableReg) (lock : Bool) (at len : ℕ) (ts : List Ask) → Plain 2 (Ordinary gdt) Behind ts (linked_reads lock false 0 (memory_pieces at len))
 two_linked_reads gdt lock at len ts = plain_within _ 2 (Ordinary gdt) Behind ts (linked_reads lock false 0 (memory_pieces at len)) (few_pieces at len) (all_linked_reads gdt (memory_pieces at len) lock false 0 ts refl (inr (some_pieces at len)))
 
-four_exchange : (gdt : TableReg) (lock : Bool) (change : ℕ → ℕ) (at len : ℕ) (ts : List Ask) → Plain 4 (Ordinary gdt) Anything ts (exchange_phrase lock change (memory_pieces at len))
-unfolding exchange_phrase Behind
-four_exchange gdt lock change at len ts =
+four_modify_groups : (gdt : TableReg) (lock : Bool) (change : ℕ → ℕ) (at len : ℕ) (ts : List Ask) → Plain 4 (Ordinary gdt) Anything ts (modify_groups_phrase lock change (memory_pieces at len))
+unfolding modify_groups_phrase Behind
+four_modify_groups gdt lock change at len ts =
     let groups = memory_pieces at len in
     plain_bind 2 4 (Ordinary gdt) Behind Anything ts _ _ (omega arith) (two_linked_reads gdt lock at len ts)
     (λ us old b. plain_bind 2 2 (Ordinary gdt) Anything Anything us _ _ (omega arith) (plain_within _ 2 (Ordinary gdt) Anything us (linked_writes lock (change old) groups) (few_pieces at len) (all_linked_writes gdt groups lock (change old) us b)) (λ vs u o. plain_done 0 (Ordinary gdt) Anything vs old tt))
@@ -123,7 +123,7 @@ four_modify : (gdt : TableReg) (p : Proc) (seg offset len : ℕ) (lock : Bool) (
 unfolding modify_phrase
 four_modify gdt p seg offset len lock change ts =
     let s = seg_at p seg in
-    plain_if 4 (Ordinary gdt) Anything ts (may_write s offset len) _ _ (four_exchange gdt lock change (linear_of s offset) len ts) (plain_faults 4 (Ordinary gdt) Anything ts _)
+    plain_if 4 (Ordinary gdt) Anything ts (may_write s offset len) _ _ (four_modify_groups gdt lock change (linear_of s offset) len ts) (plain_faults 4 (Ordinary gdt) Anything ts _)
 
 -- Bytes changed through a segment register, and what follows.
 pub modify_then : (gdt : TableReg) → {B : Type 0} (n : ℕ) (ends : List Ask → B → Type 0) (ts : List Ask) (p : Proc) (seg offset len : ℕ) (lock : Bool) (change : ℕ → ℕ) (f : ℕ → Phrase B) → nat_le 4 n ≡ true → ((us : List Ask) (v : ℕ) → Plain (n - 4) (Ordinary gdt) ends us (f v)) → Plain n (Ordinary gdt) ends ts (modify_phrase p seg offset len lock change >>= f)

@@ -10,12 +10,13 @@ use Rattle.m386_opmap.specs.declared.op.Addr.{Addr}
 use Rattle.m386_state.specs.declared.proc.Proc.{Proc}
 use Rattle.m386_state.specs.declared.segment.Seg.{Seg}
 use Rattle.m386_access.specs.After.{register_of}
+use Rattle.m386_access.specs.Registers.{esp, ebp}
 
 -- SS serves a base of ESP or EBP, and DS all else.
 -- Source: Intel 80386 PRM 2.5.3.2
 abbrev pub default_segment : Option ℕ → ℕ
 default_segment None = ds
-default_segment (Some base) = if (base == 4) || (base == 5) then ss else ds
+default_segment (Some base) = if (base == esp) || (base == ebp) then ss else ds
 
 -- The segment register of an operand.
 -- Source: Intel 80386 PRM 2.5.3.2

@@ -1,5 +1,6 @@
 -- The state behind an instruction.
 use Rattle.std.specs.Prelude.{ℕ, ◌+◌, ◌*◌, ◌/◌, ◌%◌, ◌==◌, if◌then◌else◌, slice_set, slice_index}
+use Rattle.m386_base.specs.declared.number.Flags.{Flags}
 use Rattle.m386_base.specs.declared.number.Width.{Width}
 use Rattle.m386_base.specs.declared.number.Width.TheVariants.{W8, W16, W32}
 use Rattle.m386_state.specs.declared.proc.Proc.{Proc}
@@ -16,6 +17,10 @@ register_of p register = slice_index p.regs (register % 8)
 -- with a general register changed
 abbrev pub with_register : Proc → ℕ → ℕ → Proc
 with_register p register value = record p { regs = slice_set p.regs (register % 8) value }
+
+-- with other flags
+abbrev pub with_flags : Proc → Flags → Proc
+with_flags p f = record p { eflags = f }
 
 -- how many bytes an operand has
 abbrev pub len_of : Width → ℕ

@@ -6,3 +6,4 @@ pub mod Modify
 pub mod Operands
 pub mod Ordinary
 pub mod Ran
+pub mod Registers

@@ -27,8 +27,8 @@ linked_writes lock value (p ∷ ps) = do
 
 -- Groups read, and written with a function of what was found, which is answered. With LOCK that is one locked group.
 -- Source: Intel 80386 PRM 11.2.1
-unfoldable pub exchange_phrase : Bool → (ℕ → ℕ) → List Piece → Phrase ℕ
-exchange_phrase lock change ps = do
+unfoldable pub modify_groups_phrase : Bool → (ℕ → ℕ) → List Piece → Phrase ℕ
+modify_groups_phrase lock change ps = do
   old ← linked_reads lock false 0 ps
   _ ← linked_writes lock (change old) ps
   Done old
@@ -39,7 +39,7 @@ exchange_phrase lock change ps = do
 unfoldable pub modify_phrase : Proc → ℕ → ℕ → ℕ → Bool → (ℕ → ℕ) → Phrase ℕ
 modify_phrase p seg offset len lock change =
     let s = seg_at p seg in
-    if may_write s offset len then exchange_phrase lock change (memory_pieces (linear_of s offset) len) else Faults (access_fault_of seg)
+    if may_write s offset len then modify_groups_phrase lock change (memory_pieces (linear_of s offset) len) else Faults (access_fault_of seg)
 
 -- Bytes read through a segment register, with LOCK in one locked group.
 -- Source: Intel 80386 PRM 6.3.1, 11.2.1

@@ -1,5 +1,5 @@
 -- The operands of an operation, by their forms.
-use Rattle.std.specs.Prelude.{ℕ, List, [], ◌∷◌}
+use Rattle.std.specs.Prelude.{ℕ, Bool, true, false, ◌&&◌, List, [], ◌∷◌}
 use Rattle.m386_base.specs.declared.number.Width.{Width}
 use Rattle.m386_base.specs.Exceptions.{undefined_opcode_of}
 use Rattle.m386_base.specs.Phrase.{Phrase, Done, Faults, ◌>>=◌}
@@ -34,6 +34,19 @@ forms_of (a ∷ []) = One (operand_of a)
 forms_of (a ∷ b ∷ []) = Two (operand_of a) (operand_of b)
 forms_of (a ∷ b ∷ c ∷ []) = Three (operand_of a) (operand_of b) (operand_of c)
 forms_of _ = Others
+
+-- an operand that is a general register, a number or memory
+abbrev pub is_general : Operand → Bool
+is_general Other = false
+is_general _ = true
+
+-- each of them is
+abbrev pub are_general : Operands → Bool
+are_general Absent = true
+are_general (One a) = is_general a
+are_general (Two a b) = is_general a && is_general b
+are_general (Three a b c) = is_general a && is_general b && is_general c
+are_general Others = false
 
 -- The operands of an operation, the destination first.
 unfoldable pub operands_of : Op → Operands

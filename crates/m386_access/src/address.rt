@@ -4,6 +4,7 @@ ghost use Rattle.m386_state.specs.Start.{seg_at};
 ghost use Rattle.m386_access.specs.Address.{default_segment, segment_number, part_of, offset_of, address_of, may_read, may_write, access_fault_of, linear_of};
 
 use crate::after::register_of;
+use crate::registers::{EBP, ESP};
 use m386_base::exception::{Exception, general_protection};
 use m386_base::fault::Fault;
 use m386_base::segments::{DS, SS};
@@ -18,7 +19,7 @@ fn default_segment(base: Option<u8>) -> u8
     ensures { result ≡ default_segment base }
 {
     match base {
-        Some(base) => if base == 4 || base == 5 { SS } else { DS },
+        Some(base) => if base == ESP || base == EBP { SS } else { DS },
         None => DS,
     }
 }

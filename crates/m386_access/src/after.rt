@@ -1,9 +1,9 @@
 //! The state behind an instruction.
 ghost use Rattle.std.specs.Prelude.{◌≡◌};
 ghost use Rattle.m386_base.specs.Split.{IsLength};
-ghost use Rattle.m386_access.specs.After.{moved, register_of, with_register, len_of, byte_register_of, register_at, with_byte_register, with_register_at};
+ghost use Rattle.m386_access.specs.After.{moved, register_of, with_register, with_flags, len_of, byte_register_of, register_at, with_byte_register, with_register_at};
 
-use m386_base::number::Width;
+use m386_base::number::{Flags, Width};
 use m386_state::proc::Proc;
 
 /// The state at another EIP.
@@ -28,6 +28,15 @@ pub fn with_register(p: &Proc, register: u8, value: u32) -> Proc
 {
     let mut after = *p;
     after.regs[(register % 8) as usize] = value;
+    after
+}
+
+/// The state with other flags.
+pub fn with_flags(p: &Proc, flags: Flags) -> Proc
+    ensures { result ≡ with_flags p.now flags }
+{
+    let mut after = *p;
+    after.eflags = flags;
     after
 }
 

@@ -8,3 +8,4 @@ pub mod conditions;
 pub mod modify;
 pub mod operands;
 pub mod ran;
+pub mod registers;

@@ -4,7 +4,7 @@ ghost use Rattle.m386_base.specs.Phrase.{Performs, it};
 ghost use Rattle.m386_base.specs.Split.{AreGroups};
 ghost use Rattle.m386_base.specs.declared.ask.Space.TheVariants as spaces;
 ghost use Rattle.m386_access.specs.Access.{memory_pieces};
-ghost use Rattle.m386_access.specs.Modify.{linked_reads, linked_writes, exchange_phrase, modify_phrase, inspect_phrase};
+ghost use Rattle.m386_access.specs.Modify.{linked_reads, linked_writes, modify_groups_phrase, modify_phrase, inspect_phrase};
 
 use crate::address::{access_fault, linear, may_read, may_write, segment};
 use m386_base::ask::{Ask, Role, Space};
@@ -73,8 +73,8 @@ fn write_linked<B: Bus>(bus: &mut B, groups: &[Piece], lock: bool, value: u32) -
 }
 
 /// The bytes at a linear address, read, and written with a function of what was found, which is answered.
-#[tactic(auto, using(m386_base::proofs::Phrases::calls, crate::proofs::Phrases::some_pieces), unfolding(crate::specs::Modify::exchange_phrase))]
-fn exchange<B: Bus, F: FnOnce(u32) -> u32>(
+#[tactic(auto, using(m386_base::proofs::Phrases::calls, crate::proofs::Phrases::some_pieces), unfolding(crate::specs::Modify::modify_groups_phrase))]
+fn modify_groups<B: Bus, F: FnOnce(u32) -> u32>(
     bus: &mut B,
     at: u32,
     len: u8,
@@ -84,7 +84,7 @@ fn exchange<B: Bus, F: FnOnce(u32) -> u32>(
     requires free { (B.view bus.old).kept ≡ false }
     requires len { (len ≡ 1) ⊎ (len ≡ 2) ⊎ (len ≡ 4) }
     requires change { F.IsAlwaysCallable f }
-    ensures cycles { (change : ℕ → ℕ) → ((x y : ℕ) → x < 2 ^ 32 → F.post f x y → y ≡ change x) → Performs (exchange_phrase lock change (memory_pieces at len)) (B.view bus.old) (B.view bus.new) it result }
+    ensures cycles { (change : ℕ → ℕ) → ((x y : ℕ) → x < 2 ^ 32 → F.post f x y → y ≡ change x) → Performs (modify_groups_phrase lock change (memory_pieces at len)) (B.view bus.old) (B.view bus.new) it result }
     ensures free { (B.view bus.new).kept ≡ false }
 {
     let groups = split(Space::Memory, at, len);
@@ -115,7 +115,7 @@ pub fn modify<B: Bus, F: FnOnce(u32) -> u32>(
     if !may_write(&s, offset, len) {
         return Err(Break::Fault(access_fault(seg)));
     }
-    exchange(bus, linear(&s, offset), len, lock, f)
+    modify_groups(bus, linear(&s, offset), len, lock, f)
 }
 
 /// Reads 1, 2 or 4 bytes through a segment register, with LOCK in one locked group. A fault, with no cycle, exactly where a test

@@ -1,7 +1,7 @@
 //! The operands of an operation, by their forms.
 ghost use Rattle.std.specs.Prelude.{◌≡◌, false};
 ghost use Rattle.m386_base.specs.Phrase.{Performs, it};
-ghost use Rattle.m386_access.specs.Operands.{manner_of, operand_of, forms_of, operands_of, value_phrase, store_phrase, put_phrase};
+ghost use Rattle.m386_access.specs.Operands.{manner_of, operand_of, forms_of, is_general, are_general, operands_of, value_phrase, store_phrase, put_phrase};
 
 use crate::access::{read_at, write_at};
 use crate::after::{len_of, register_at, with_register_at};
@@ -81,6 +81,26 @@ fn forms_of(args: &[Arg]) -> Operands
         [a, b] => Operands::Two(operand_of(*a), operand_of(*b)),
         [a, b, c] => Operands::Three(operand_of(*a), operand_of(*b), operand_of(*c)),
         _ => Operands::Others,
+    }
+}
+
+/// Whether an operand is a general register, a number or memory.
+fn is_general(operand: Operand) -> bool
+    ensures { result ≡ is_general operand }
+{
+    !matches!(operand, Operand::Other)
+}
+
+/// Whether each operand is a general register, a number or memory.
+pub fn are_general(operands: Operands) -> bool
+    ensures { result ≡ are_general operands }
+{
+    match operands {
+        Operands::Absent => true,
+        Operands::One(a) => is_general(a),
+        Operands::Two(a, b) => is_general(a) && is_general(b),
+        Operands::Three(a, b, c) => is_general(a) && is_general(b) && is_general(c),
+        Operands::Others => false,
     }
 }
 
