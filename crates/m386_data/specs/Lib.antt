@@ -1,4 +1,5 @@
-pub mod Calculate
-pub mod Exchange
-pub mod Exec
-pub mod Moves
+pub mod BitStrings
+pub mod Change
+pub mod Compare
+pub mod Products
+pub mod Update

@@ -1,8 +1,8 @@
-//! Moves, exchanges, and arithmetic on registers and memory.
+//! Moves, arithmetic, shifts and tests of bits, on registers and memory.
 #![tactic(auto)]
 
-pub mod calculate;
-pub mod exchange;
-pub mod exec;
-pub mod laws;
-pub mod moves;
+pub mod bit_strings;
+pub mod change;
+pub mod compare;
+pub mod products;
+pub mod update;

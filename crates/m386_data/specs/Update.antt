@@ -1,0 +1,71 @@
+-- Operations that change one operand, which is read and written.
+use Rattle.std.specs.Prelude.{ℕ, Bool}
+use Rattle.m386_base.specs.declared.number.Flags.{Flags}
+use Rattle.m386_base.specs.declared.number.Width.{Width}
+use Rattle.m386_base.specs.declared.number.Width.TheVariants.{W8}
+use Rattle.m386_base.specs.Exceptions.{undefined_opcode_of}
+use Rattle.m386_base.specs.Phrase.{Phrase, Done, Faults, ◌>>=◌}
+use Rattle.m386_alu.specs.declared.arithmetic.AluOp.{AluOp}
+use Rattle.m386_alu.specs.declared.shifts.ShiftOp.{ShiftOp}
+use Rattle.m386_state.specs.declared.proc.Proc.{Proc}
+use Rattle.m386_access.specs.Address.{segment_number, offset_of}
+use Rattle.m386_access.specs.After.{len_of, register_at, with_register_at, with_flags}
+use Rattle.m386_access.specs.Modify.{modify_phrase}
+use Rattle.m386_access.specs.Operands.{value_phrase}
+use Rattle.m386_access.specs.declared.operands.Manner.{Manner}
+use Rattle.m386_access.specs.declared.operands.Operand.{Operand}
+use Rattle.m386_access.specs.declared.operands.Operand.TheVariants.{Register, Number, Memory, Other}
+use Rattle.m386_access.specs.declared.operands.Operands.{Operands}
+use Rattle.m386_access.specs.declared.operands.Operands.TheVariants.{One, Two, Three}
+use Rattle.m386_data.specs.Change.{changed}
+use Rattle.m386_data.specs.declared.change.Change.{Change}
+use Rattle.m386_data.specs.declared.change.Change.TheVariants.{Arithmetic, Shift, DoubleShift}
+
+-- memory changed, and the flags after it
+unfoldable pub change_memory_phrase : Change → Manner → Proc → ℕ → ℕ → Phrase Proc
+change_memory_phrase change m p seg offset = do
+  old ← modify_phrase p seg offset (len_of m.width) m.lock (λ old. (changed change m.width old p.eflags).0)
+  Done (with_flags p (changed change m.width old p.eflags).1)
+
+-- a register put to a result, and the flags after it
+abbrev pub put_found : Width → Proc → ℕ → ℕ × Flags → Proc
+put_found w p register found = with_register_at w (with_flags p found.1) register found.0
+
+-- An operand changed, and the flags after it.
+-- Source: Intel 80386 PRM 3.2, 3.4; #UD: docs/DECISIONS.md, "Operations that aren't built"
+unfoldable pub change_phrase : Change → Manner → Proc → Operand → Phrase Proc
+change_phrase change m p (Register register) = Done (put_found m.width p register (changed change m.width (register_at m.width p register) p.eflags))
+change_phrase change m p (Memory a) = change_memory_phrase change m p (segment_number a.seg a.base) (offset_of p a)
+change_phrase change m p (Number number) = Faults undefined_opcode_of
+change_phrase change m p Other = Faults undefined_opcode_of
+
+-- ADD, OR, ADC, SBB, AND, SUB or XOR. The second operand is read first.
+-- Source: Intel 80386 PRM 17.2.2.11, ADC, ADD, AND, OR, SBB, SUB, XOR
+unfoldable pub arithmetic_phrase : AluOp → Manner → Operands → Proc → Phrase Proc
+arithmetic_phrase op m (Two first second) p = do
+  b ← value_phrase m.width p second
+  change_phrase (Arithmetic op b) m p first
+arithmetic_phrase op m _ p = Faults undefined_opcode_of
+
+-- INC, DEC, NOT or NEG.
+-- Source: Intel 80386 PRM 17.2.2.11, DEC, INC, NEG, NOT
+unfoldable pub single_phrase : Change → Manner → Operands → Proc → Phrase Proc
+single_phrase change m (One first) p = change_phrase change m p first
+single_phrase change m _ p = Faults undefined_opcode_of
+
+-- A shift or rotate, by a number or CL.
+-- Source: Intel 80386 PRM 17.2.2.11, RCL/RCR/ROL/ROR, SAL/SAR/SHL/SHR
+unfoldable pub shift_phrase : ShiftOp → Manner → Operands → Proc → Phrase Proc
+shift_phrase op m (Two first count) p = do
+  n ← value_phrase W8 p count
+  change_phrase (Shift op n) m p first
+shift_phrase op m _ p = Faults undefined_opcode_of
+
+-- SHLD or SHRD, by a number or CL.
+-- Source: Intel 80386 PRM 17.2.2.11, SHLD, SHRD
+unfoldable pub double_shift_phrase : Bool → Manner → Operands → Proc → Phrase Proc
+double_shift_phrase left m (Three first second count) p = do
+  b ← value_phrase m.width p second
+  n ← value_phrase W8 p count
+  change_phrase (DoubleShift left b n) m p first
+double_shift_phrase left m _ p = Faults undefined_opcode_of

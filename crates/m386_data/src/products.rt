@@ -1,0 +1,109 @@
+//! Products and quotients.
+ghost use Rattle.std.specs.Prelude.{◌≡◌, false};
+ghost use Rattle.m386_alu.specs.Division.{div_of};
+ghost use Rattle.m386_access.specs.After.{register_at};
+ghost use Rattle.m386_access.specs.Registers.{eax};
+ghost use Rattle.m386_base.specs.Phrase.{Performs, it};
+ghost use Rattle.m386_data.specs.Change.{low_of};
+ghost use Rattle.m386_data.specs.Products.{upper_register, with_halves, multiplied, with_product, multiply_phrase, divided_phrase, divide_phrase};
+
+use crate::change::low;
+use m386_access::after::{register_at, with_flags, with_register_at};
+use m386_access::operands::{Manner, Operand, Operands, value};
+use m386_access::registers::{AH, EAX, EDX};
+use m386_alu::division::div;
+use m386_alu::products::mul;
+use m386_base::bus::Bus;
+use m386_base::exception::{Exception, undefined_opcode};
+use m386_base::fault::Break;
+use m386_base::number::Width;
+use m386_state::proc::Proc;
+
+/// The register of the upper half of a product or dividend (PRM 3.2.3, 3.2.4).
+fn upper_register(width: Width) -> u8
+    ensures { result ≡ upper_register width }
+{
+    match width {
+        Width::W8 => AH,
+        Width::W16 | Width::W32 => EDX,
+    }
+}
+
+/// The state with the registers of a product's two halves put to values.
+fn with_halves(width: Width, p: &Proc, upper: u32, lower: u32) -> Proc
+    ensures { result ≡ with_halves width p.now upper lower }
+{
+    let after = with_register_at(width, p, EAX, lower);
+    with_register_at(width, &after, upper_register(width), upper)
+}
+
+/// The accumulator times a number, in two registers.
+fn multiplied(signed: bool, width: Width, p: &Proc, b: u32) -> Proc
+    ensures { result ≡ multiplied signed width p.now b }
+{
+    let a = low(width, register_at(width, p, EAX));
+    let (upper, lower, flags) = mul(signed, width, a, low(width, b), p.eflags);
+    with_halves(width, &with_flags(p, flags), upper, lower)
+}
+
+/// The lower half of a product, in a register.
+fn with_product(signed: bool, width: Width, p: &Proc, register: u8, a: u32, b: u32) -> Proc
+    ensures { result ≡ with_product signed width p.now register a b }
+{
+    let (_, lower, flags) = mul(signed, width, low(width, a), low(width, b), p.eflags);
+    with_register_at(width, &with_flags(p, flags), register, lower)
+}
+
+/// MUL or IMUL, and the forms of IMUL with two and three operands.
+#[tactic(auto, using(m386_base::proofs::Phrases::calls), unfolding(crate::specs::Products::multiply_phrase))]
+pub(crate) fn multiply<B: Bus>(signed: bool, manner: Manner, operands: Operands, p: &Proc, bus: &mut B) -> Result<Proc, Break>
+    requires free { (B.view bus.old).kept ≡ false }
+    ensures cycles { Performs (multiply_phrase signed manner operands p.now) (B.view bus.old) (B.view bus.new) it result }
+    ensures free { (B.view bus.new).kept ≡ false }
+{
+    let width = manner.width;
+    match operands {
+        Operands::One(first) => {
+            let b = value(width, p, first, bus)?;
+            Ok(multiplied(signed, width, p, b))
+        }
+        Operands::Two(Operand::Register(register), second) => {
+            let b = value(width, p, second, bus)?;
+            Ok(with_product(signed, width, p, register, register_at(width, p, register), b))
+        }
+        Operands::Three(Operand::Register(register), second, third) => {
+            let a = value(width, p, second, bus)?;
+            let b = value(width, p, third, bus)?;
+            Ok(with_product(signed, width, p, register, a, b))
+        }
+        _ => Err(Break::Fault(undefined_opcode())),
+    }
+}
+
+/// The two registers divided by a number: the quotient and the remainder, none where it is 0 or the quotient doesn't fit.
+fn quotient(signed: bool, width: Width, p: &Proc, by: u32) -> Option<(u32, u32)>
+    ensures { result ≡ div_of signed width (low_of width (register_at width p.now (upper_register width))) (low_of width (register_at width p.now eax)) (low_of width by) }
+{
+    let upper = low(width, register_at(width, p, upper_register(width)));
+    let lower = low(width, register_at(width, p, EAX));
+    div(signed, width, upper, lower, low(width, by))
+}
+
+/// DIV or IDIV of the two registers by an operand. Interrupt 0 where `quotient` finds none.
+#[tactic(auto, using(m386_base::proofs::Phrases::calls), unfolding(crate::specs::Products::divide_phrase))]
+pub(crate) fn divide<B: Bus>(signed: bool, manner: Manner, operands: Operands, p: &Proc, bus: &mut B) -> Result<Proc, Break>
+    requires free { (B.view bus.old).kept ≡ false }
+    ensures cycles { Performs (divide_phrase signed manner operands p.now) (B.view bus.old) (B.view bus.new) it result }
+    ensures free { (B.view bus.new).kept ≡ false }
+{
+    match operands {
+        Operands::One(first) => {
+            let by = value(manner.width, p, first, bus)?;
+            match quotient(signed, manner.width, p, by) {
+                Some((quotient, remainder)) => Ok(with_halves(manner.width, p, remainder, quotient)),
+                None => Err(Break::Fault(Exception::DivideError.fault())),
+            }
+        }
+        _ => Err(Break::Fault(undefined_opcode())),
+    }
+}

@@ -1,0 +1,127 @@
+//! Operations that change one operand, which is read and written.
+ghost use Rattle.std.specs.Prelude.{◌≡◌, false};
+ghost use Rattle.m386_base.specs.Phrase.{Performs, it};
+ghost use Rattle.m386_data.specs.Update.{put_found, change_memory_phrase, change_phrase, arithmetic_phrase, single_phrase, shift_phrase, double_shift_phrase};
+
+use crate::change::{Change, apply};
+use m386_access::address::address;
+use m386_access::after::{len_of, register_at, with_flags, with_register_at};
+use m386_access::modify::modify;
+use m386_access::operands::{Manner, Operand, Operands, value};
+use m386_alu::arithmetic::AluOp;
+use m386_alu::shifts::ShiftOp;
+use m386_base::bus::Bus;
+use m386_base::exception::undefined_opcode;
+use m386_base::fault::Break;
+use m386_base::number::{Flags, Width};
+use m386_state::proc::Proc;
+
+/// Changes memory, and answers the state with the flags after it.
+#[tactic(auto, using(m386_base::proofs::Phrases::calls), unfolding(crate::specs::Update::change_memory_phrase))]
+pub(crate) fn change_memory<B: Bus>(
+    change: Change,
+    manner: Manner,
+    p: &Proc,
+    seg: u8,
+    offset: u32,
+    bus: &mut B,
+) -> Result<Proc, Break>
+    requires free { (B.view bus.old).kept ≡ false }
+    ensures cycles { Performs (change_memory_phrase change manner p.now seg offset) (B.view bus.old) (B.view bus.new) it result }
+    ensures free { (B.view bus.new).kept ≡ false }
+{
+    let flags = p.eflags;
+    let width = manner.width;
+    let old = modify(p, bus, seg, offset, len_of(width), manner.lock, |old| apply(change, width, old, flags).0)?;
+    Ok(with_flags(p, apply(change, width, old, flags).1))
+}
+
+/// The state with a register put to a result, and the flags after it.
+fn put_found(width: Width, p: &Proc, register: u8, found: (u32, Flags)) -> Proc
+    ensures { result ≡ put_found width p.now register found }
+{
+    with_register_at(width, &with_flags(p, found.1), register, found.0)
+}
+
+/// Changes an operand, and answers the state after it.
+#[tactic(auto, using(m386_base::proofs::Phrases::calls), unfolding(crate::specs::Update::change_phrase))]
+pub(crate) fn change_operand<B: Bus>(change: Change, manner: Manner, p: &Proc, operand: Operand, bus: &mut B) -> Result<Proc, Break>
+    requires free { (B.view bus.old).kept ≡ false }
+    ensures cycles { Performs (change_phrase change manner p.now operand) (B.view bus.old) (B.view bus.new) it result }
+    ensures free { (B.view bus.new).kept ≡ false }
+{
+    match operand {
+        Operand::Register(register) => {
+            let old = register_at(manner.width, p, register);
+            let found = apply(change, manner.width, old, p.eflags);
+            Ok(put_found(manner.width, p, register, found))
+        }
+        Operand::Memory(a) => {
+            let (seg, offset) = address(p, &a);
+            change_memory(change, manner, p, seg, offset, bus)
+        }
+        Operand::Number(_) | Operand::Other => Err(Break::Fault(undefined_opcode())),
+    }
+}
+
+/// ADD, OR, ADC, SBB, AND, SUB or XOR. The second operand is read first.
+#[tactic(auto, using(m386_base::proofs::Phrases::calls), unfolding(crate::specs::Update::arithmetic_phrase))]
+pub(crate) fn arithmetic<B: Bus>(op: AluOp, manner: Manner, operands: Operands, p: &Proc, bus: &mut B) -> Result<Proc, Break>
+    requires free { (B.view bus.old).kept ≡ false }
+    ensures cycles { Performs (arithmetic_phrase op manner operands p.now) (B.view bus.old) (B.view bus.new) it result }
+    ensures free { (B.view bus.new).kept ≡ false }
+{
+    match operands {
+        Operands::Two(first, second) => {
+            let b = value(manner.width, p, second, bus)?;
+            change_operand(Change::Arithmetic(op, b), manner, p, first, bus)
+        }
+        _ => Err(Break::Fault(undefined_opcode())),
+    }
+}
+
+/// INC, DEC, NOT or NEG.
+#[tactic(auto, using(m386_base::proofs::Phrases::calls), unfolding(crate::specs::Update::single_phrase))]
+pub(crate) fn single<B: Bus>(change: Change, manner: Manner, operands: Operands, p: &Proc, bus: &mut B) -> Result<Proc, Break>
+    requires free { (B.view bus.old).kept ≡ false }
+    ensures cycles { Performs (single_phrase change manner operands p.now) (B.view bus.old) (B.view bus.new) it result }
+    ensures free { (B.view bus.new).kept ≡ false }
+{
+    match operands {
+        Operands::One(first) => change_operand(change, manner, p, first, bus),
+        _ => Err(Break::Fault(undefined_opcode())),
+    }
+}
+
+/// A shift or rotate, by a number or CL.
+#[tactic(auto, using(m386_base::proofs::Phrases::calls), unfolding(crate::specs::Update::shift_phrase))]
+pub(crate) fn shift_operand<B: Bus>(op: ShiftOp, manner: Manner, operands: Operands, p: &Proc, bus: &mut B) -> Result<Proc, Break>
+    requires free { (B.view bus.old).kept ≡ false }
+    ensures cycles { Performs (shift_phrase op manner operands p.now) (B.view bus.old) (B.view bus.new) it result }
+    ensures free { (B.view bus.new).kept ≡ false }
+{
+    match operands {
+        Operands::Two(first, count) => {
+            let n = value(Width::W8, p, count, bus)?;
+            change_operand(Change::Shift(op, n), manner, p, first, bus)
+        }
+        _ => Err(Break::Fault(undefined_opcode())),
+    }
+}
+
+/// SHLD or SHRD, by a number or CL.
+#[tactic(auto, using(m386_base::proofs::Phrases::calls), unfolding(crate::specs::Update::double_shift_phrase))]
+pub(crate) fn double_shift_operand<B: Bus>(left: bool, manner: Manner, operands: Operands, p: &Proc, bus: &mut B) -> Result<Proc, Break>
+    requires free { (B.view bus.old).kept ≡ false }
+    ensures cycles { Performs (double_shift_phrase left manner operands p.now) (B.view bus.old) (B.view bus.new) it result }
+    ensures free { (B.view bus.new).kept ≡ false }
+{
+    match operands {
+        Operands::Three(first, second, count) => {
+            let source = value(manner.width, p, second, bus)?;
+            let count = value(Width::W8, p, count, bus)?;
+            change_operand(Change::DoubleShift { left, source, count }, manner, p, first, bus)
+        }
+        _ => Err(Break::Fault(undefined_opcode())),
+    }
+}
