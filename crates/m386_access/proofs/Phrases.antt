@@ -17,7 +17,10 @@ use Rattle.m386_access.specs.Access.{memory_pieces, read_ask, reads, writes, rea
 use Rattle.m386_access.specs.Address.{segment_number, offset_of, may_read, may_write, linear_of}
 use Rattle.m386_access.specs.After.{len_of, with_register, with_register_at}
 use Rattle.m386_access.specs.Modify.{linked_reads, linked_writes, modify_groups_phrase, modify_phrase, inspect_phrase}
-use Rattle.m386_access.specs.Operands.{value_phrase, store_phrase, put_phrase}
+use Rattle.m386_access.specs.Operands.{value_phrase, store_phrase, put_phrase, on_register, on_memory, on_one, on_two, on_three}
+use Rattle.m386_access.specs.declared.operands.Operands.{Operands}
+use Rattle.m386_access.specs.declared.operands.Operands.TheVariants.{Absent, One, Two, Three, Others}
+use Rattle.m386_opmap.specs.declared.op.Addr.{Addr}
 use Rattle.m386_access.specs.Ordinary.{Ordinary, Reads, Writes, is_read_role, is_write_role, is_behind, is_nested, Keeps}
 use Rattle.m386_access.specs.declared.operands.Operand.{Operand}
 use Rattle.m386_access.specs.declared.operands.Operand.TheVariants.{Register, Number, Other}
@@ -148,6 +151,39 @@ two_value gdt w p (Number number) ts = plain_done 2 (Ordinary gdt) Anything ts _
 two_value gdt w p (operands.Memory a) ts = two_read gdt p roles.Operand (segment_number a.seg a.base) (offset_of p a) (len_of w) ts refl
 two_value gdt w p Other ts = plain_faults 2 (Ordinary gdt) Anything ts _
 
+pub on_register_plain : {B : Type 0} (gdt : TableReg) (n : ℕ) (ends : List Ask → B → Type 0) (ts : List Ask) (operand : Operand) (f : ℕ → Phrase B) → ((register : ℕ) → Plain n (Ordinary gdt) ends ts (f register)) → Plain n (Ordinary gdt) ends ts (on_register operand f)
+on_register_plain gdt n ends ts (Register register) f k = k register
+on_register_plain gdt n ends ts (Number number) f k = plain_faults n (Ordinary gdt) ends ts _
+on_register_plain gdt n ends ts (operands.Memory a) f k = plain_faults n (Ordinary gdt) ends ts _
+on_register_plain gdt n ends ts Other f k = plain_faults n (Ordinary gdt) ends ts _
+
+pub on_memory_plain : {B : Type 0} (gdt : TableReg) (n : ℕ) (ends : List Ask → B → Type 0) (ts : List Ask) (operand : Operand) (f : Addr → Phrase B) → ((a : Addr) → Plain n (Ordinary gdt) ends ts (f a)) → Plain n (Ordinary gdt) ends ts (on_memory operand f)
+on_memory_plain gdt n ends ts (Register register) f k = plain_faults n (Ordinary gdt) ends ts _
+on_memory_plain gdt n ends ts (Number number) f k = plain_faults n (Ordinary gdt) ends ts _
+on_memory_plain gdt n ends ts (operands.Memory a) f k = k a
+on_memory_plain gdt n ends ts Other f k = plain_faults n (Ordinary gdt) ends ts _
+
+pub on_one_plain : {B : Type 0} (gdt : TableReg) (n : ℕ) (ends : List Ask → B → Type 0) (ts : List Ask) (os : Operands) (f : Operand → Phrase B) → ((a : Operand) → Plain n (Ordinary gdt) ends ts (f a)) → Plain n (Ordinary gdt) ends ts (on_one os f)
+on_one_plain gdt n ends ts Absent f k = plain_faults n (Ordinary gdt) ends ts _
+on_one_plain gdt n ends ts (One a) f k = k a
+on_one_plain gdt n ends ts (Two a b) f k = plain_faults n (Ordinary gdt) ends ts _
+on_one_plain gdt n ends ts (Three a b c) f k = plain_faults n (Ordinary gdt) ends ts _
+on_one_plain gdt n ends ts Others f k = plain_faults n (Ordinary gdt) ends ts _
+
+pub on_two_plain : {B : Type 0} (gdt : TableReg) (n : ℕ) (ends : List Ask → B → Type 0) (ts : List Ask) (os : Operands) (f : Operand → Operand → Phrase B) → ((a b : Operand) → Plain n (Ordinary gdt) ends ts (f a b)) → Plain n (Ordinary gdt) ends ts (on_two os f)
+on_two_plain gdt n ends ts Absent f k = plain_faults n (Ordinary gdt) ends ts _
+on_two_plain gdt n ends ts (One a) f k = plain_faults n (Ordinary gdt) ends ts _
+on_two_plain gdt n ends ts (Two a b) f k = k a b
+on_two_plain gdt n ends ts (Three a b c) f k = plain_faults n (Ordinary gdt) ends ts _
+on_two_plain gdt n ends ts Others f k = plain_faults n (Ordinary gdt) ends ts _
+
+pub on_three_plain : {B : Type 0} (gdt : TableReg) (n : ℕ) (ends : List Ask → B → Type 0) (ts : List Ask) (os : Operands) (f : Operand → Operand → Operand → Phrase B) → ((a b c : Operand) → Plain n (Ordinary gdt) ends ts (f a b c)) → Plain n (Ordinary gdt) ends ts (on_three os f)
+on_three_plain gdt n ends ts Absent f k = plain_faults n (Ordinary gdt) ends ts _
+on_three_plain gdt n ends ts (One a) f k = plain_faults n (Ordinary gdt) ends ts _
+on_three_plain gdt n ends ts (Two a b) f k = plain_faults n (Ordinary gdt) ends ts _
+on_three_plain gdt n ends ts (Three a b c) f k = k a b c
+on_three_plain gdt n ends ts Others f k = plain_faults n (Ordinary gdt) ends ts _
+
 -- An operand's value, and what follows.
 pub value_then : (gdt : TableReg) → {B : Type 0} (n : ℕ) (ends : List Ask → B → Type 0) (ts : List Ask) (w : Width) (p : Proc) (operand : Operand) (f : ℕ → Phrase B) → nat_le 2 n ≡ true → ((us : List Ask) (v : ℕ) → Plain (n - 2) (Ordinary gdt) ends us (f v)) → Plain n (Ordinary gdt) ends ts (value_phrase w p operand >>= f)
 value_then gdt n ends ts w p operand f l k = plain_bind 2 n (Ordinary gdt) Anything ends ts _ f (grind (arith, l)) (two_value gdt w p operand ts) (λ us v o. k us v)
@@ -193,4 +229,4 @@ put_plain n w p q (operands.Memory a) value ts l s =
     (λ us u. plain_done (n - 2) (Ordinary p.gdtr) (Keeps p) us q (keeps_stays p us q s))
 
 -- how an operation's phrase is made of others
-pub ruleset plain = (plain_done, plain_faults, plain_if, reads_then, writes_then, read_then, write_then, modify_then, inspect_then, value_then, put_plain, keeps_rest, keeps_stays, stays_same, stays_if, stays_register, refl)
+pub ruleset plain = (plain_done, plain_faults, plain_if, reads_then, writes_then, read_then, write_then, modify_then, inspect_then, value_then, put_plain, on_register_plain, on_memory_plain, on_one_plain, on_two_plain, on_three_plain, keeps_rest, keeps_stays, stays_same, stays_if, stays_register, refl)

@@ -52,6 +52,32 @@ are_general Others = false
 unfoldable pub operands_of : Op → Operands
 operands_of op = forms_of op.args.items
 
+-- what is done with a register
+abbrev pub on_register : {A : Type 0} → Operand → (ℕ → Phrase A) → Phrase A
+on_register (Register register) f = f register
+on_register _ f = Faults undefined_opcode_of
+
+-- what is done with memory
+abbrev pub on_memory : {A : Type 0} → Operand → (Addr → Phrase A) → Phrase A
+on_memory (Memory a) f = f a
+on_memory _ f = Faults undefined_opcode_of
+
+-- What is done with just one operand. Here and below, other operands are #UD.
+-- Own choice: docs/DECISIONS.md, "Operations that aren't built"
+abbrev pub on_one : {A : Type 0} → Operands → (Operand → Phrase A) → Phrase A
+on_one (One a) f = f a
+on_one _ f = Faults undefined_opcode_of
+
+-- with two
+abbrev pub on_two : {A : Type 0} → Operands → (Operand → Operand → Phrase A) → Phrase A
+on_two (Two a b) f = f a b
+on_two _ f = Faults undefined_opcode_of
+
+-- with three
+abbrev pub on_three : {A : Type 0} → Operands → (Operand → Operand → Operand → Phrase A) → Phrase A
+on_three (Three a b c) f = f a b c
+on_three _ f = Faults undefined_opcode_of
+
 -- An operand's value, by its width.
 -- Source: Intel 80386 PRM 2.5; #UD: docs/DECISIONS.md, "Operations that aren't built"
 unfoldable pub value_phrase : Width → Proc → Operand → Phrase ℕ

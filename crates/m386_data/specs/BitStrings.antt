@@ -3,6 +3,7 @@ use Rattle.std.specs.Prelude.{ℕ, ◌+◌, ◌-◌, ◌*◌, ◌/◌, ◌%◌, 
 use Rattle.m386_base.specs.declared.number.Width.{Width}
 use Rattle.m386_base.specs.Exceptions.{undefined_opcode_of}
 use Rattle.m386_base.specs.Phrase.{Phrase, Done, Faults, ◌>>=◌}
+use Rattle.m386_opmap.specs.declared.op.Addr.{Addr}
 use Rattle.m386_state.specs.declared.proc.Proc.{Proc}
 use Rattle.m386_alu.specs.Width.{bits, is_negative}
 use Rattle.m386_alu.specs.declared.bit_tests.BitOp.{BitOp}
@@ -10,12 +11,11 @@ use Rattle.m386_alu.specs.declared.bit_tests.BitOp.TheVariants.{Test, Set, Reset
 use Rattle.m386_access.specs.Address.{segment_number, offset_of}
 use Rattle.m386_access.specs.After.{len_of, register_at, with_flags}
 use Rattle.m386_access.specs.Modify.{inspect_phrase}
-use Rattle.m386_access.specs.Operands.{value_phrase}
+use Rattle.m386_access.specs.Operands.{value_phrase, on_two}
 use Rattle.m386_access.specs.declared.operands.Manner.{Manner}
 use Rattle.m386_access.specs.declared.operands.Operand.{Operand}
-use Rattle.m386_access.specs.declared.operands.Operand.TheVariants.{Register, Number, Memory}
+use Rattle.m386_access.specs.declared.operands.Operand.TheVariants.{Register, Number, Memory, Other}
 use Rattle.m386_access.specs.declared.operands.Operands.{Operands}
-use Rattle.m386_access.specs.declared.operands.Operands.TheVariants.{One, Two, Three}
 use Rattle.m386_data.specs.Change.{changed}
 use Rattle.m386_data.specs.Update.{change_memory_phrase, change_phrase}
 use Rattle.m386_data.specs.declared.change.Change.TheVariants.{Bit}
@@ -47,11 +47,23 @@ register_bit_phrase op m p register second = do
   k ← value_phrase m.width p second
   change_phrase (Bit op k) m p (Register register)
 
--- BT, BTS, BTR or BTC. Only a register reaches beyond its own unit of memory.
+-- A bit of memory, by a register or a number. Only a register reaches beyond the unit of its width.
+-- Source: Intel 80386 PRM 3.4.2
+abbrev pub bit_string_phrase : BitOp → Manner → Proc → Addr → Operand → Phrase Proc
+bit_string_phrase op m p a (Register register) =
+    memory_bit_phrase op m p (segment_number a.seg a.base) (unit_offset m.width (offset_of p a) (register_at m.width p register)) (register_at m.width p register)
+bit_string_phrase op m p a (Number number) = memory_bit_phrase op m p (segment_number a.seg a.base) (offset_of p a) number
+bit_string_phrase op m p a (Memory b) = Faults undefined_opcode_of
+bit_string_phrase op m p a Other = Faults undefined_opcode_of
+
+-- a bit of an operand
+abbrev pub bit_of_phrase : BitOp → Manner → Proc → Operand → Operand → Phrase Proc
+bit_of_phrase op m p (Register register) second = register_bit_phrase op m p register second
+bit_of_phrase op m p (Memory a) second = bit_string_phrase op m p a second
+bit_of_phrase op m p (Number number) second = Faults undefined_opcode_of
+bit_of_phrase op m p Other second = Faults undefined_opcode_of
+
+-- BT, BTS, BTR or BTC.
 -- Source: Intel 80386 PRM 17.2.2.11, BT, BTC, BTR, BTS
 unfoldable pub bit_test_phrase : BitOp → Manner → Operands → Proc → Phrase Proc
-bit_test_phrase op m (Two (Register register) second) p = register_bit_phrase op m p register second
-bit_test_phrase op m (Two (Memory a) (Register register)) p =
-    memory_bit_phrase op m p (segment_number a.seg a.base) (unit_offset m.width (offset_of p a) (register_at m.width p register)) (register_at m.width p register)
-bit_test_phrase op m (Two (Memory a) (Number number)) p = memory_bit_phrase op m p (segment_number a.seg a.base) (offset_of p a) number
-bit_test_phrase op m _ p = Faults undefined_opcode_of
+bit_test_phrase op m operands p = on_two operands (bit_of_phrase op m p)

@@ -4,17 +4,13 @@ use Rattle.std.specs.Int.Count.{count_leading_zeros, count_trailing_zeros}
 use Rattle.m386_base.specs.declared.flags.Flag.TheVariants.{Zero}
 use Rattle.m386_base.specs.declared.number.Width.{Width}
 use Rattle.m386_base.specs.Flags.{with_flag}
-use Rattle.m386_base.specs.Exceptions.{undefined_opcode_of}
-use Rattle.m386_base.specs.Phrase.{Phrase, Done, Faults, ◌>>=◌}
+use Rattle.m386_base.specs.Phrase.{Phrase, Done, ◌>>=◌}
 use Rattle.m386_state.specs.declared.proc.Proc.{Proc}
 use Rattle.m386_alu.specs.declared.arithmetic.AluOp.{AluOp}
 use Rattle.m386_access.specs.After.{with_flags, with_register_at}
-use Rattle.m386_access.specs.Operands.{value_phrase}
+use Rattle.m386_access.specs.Operands.{value_phrase, on_two, on_register}
 use Rattle.m386_access.specs.declared.operands.Manner.{Manner}
-use Rattle.m386_access.specs.declared.operands.Operand.{Operand}
-use Rattle.m386_access.specs.declared.operands.Operand.TheVariants.{Register, Number, Memory}
 use Rattle.m386_access.specs.declared.operands.Operands.{Operands}
-use Rattle.m386_access.specs.declared.operands.Operands.TheVariants.{One, Two, Three}
 use Rattle.m386_data.specs.Change.{changed, low_of}
 use Rattle.m386_data.specs.declared.change.Change.TheVariants.{Arithmetic}
 use Rattle.m386_data.specs.declared.compare.Scan.{Scan}
@@ -23,11 +19,8 @@ use Rattle.m386_data.specs.declared.compare.Scan.TheVariants.{Forward, Reverse}
 -- CMP or TEST: the flags of arithmetic whose result isn't stored.
 -- Source: Intel 80386 PRM 17.2.2.11, CMP, TEST
 unfoldable pub compare_phrase : AluOp → Manner → Operands → Proc → Phrase Proc
-compare_phrase op m (Two first second) p = do
-  b ← value_phrase m.width p second
-  a ← value_phrase m.width p first
-  Done (with_flags p (changed (Arithmetic op b) m.width a p.eflags).1)
-compare_phrase op m _ p = Faults undefined_opcode_of
+compare_phrase op m operands p =
+    on_two operands (λ first second. value_phrase m.width p second >>= (λ b. value_phrase m.width p first >>= (λ a. Done (with_flags p (changed (Arithmetic op b) m.width a p.eflags).1))))
 
 -- the place of the lowest or highest bit that is 1 of a number below 2^32 that isn't 0
 abbrev pub place_of_one : Scan → ℕ → ℕ
@@ -45,7 +38,5 @@ scanned scan w p register n =
 -- BSF or BSR.
 -- Source: Intel 80386 PRM 17.2.2.11, BSF, BSR
 unfoldable pub scan_phrase : Scan → Manner → Operands → Proc → Phrase Proc
-scan_phrase scan m (Two (Register register) source) p = do
-  n ← value_phrase m.width p source
-  Done (scanned scan m.width p register (low_of m.width n))
-scan_phrase scan m _ p = Faults undefined_opcode_of
+scan_phrase scan m operands p =
+    on_two operands (λ first second. on_register first (λ register. value_phrase m.width p second >>= (λ n. Done (scanned scan m.width p register (low_of m.width n)))))

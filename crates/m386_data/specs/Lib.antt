@@ -1,5 +1,10 @@
+pub mod Alone
 pub mod BitStrings
+pub mod Bound
 pub mod Change
 pub mod Compare
+pub mod Exec
+pub mod Moves
 pub mod Products
 pub mod Update
+pub mod Work

@@ -9,13 +9,13 @@ use Rattle.m386_state.specs.declared.proc.Proc.{Proc}
 use Rattle.m386_alu.specs.Division.{div_of}
 use Rattle.m386_alu.specs.Products.{mul_of}
 use Rattle.m386_access.specs.After.{register_at, with_flags, with_register_at}
-use Rattle.m386_access.specs.Operands.{value_phrase}
+use Rattle.m386_access.specs.Operands.{value_phrase, on_one, on_register}
 use Rattle.m386_access.specs.Registers.{eax, edx, ah}
 use Rattle.m386_access.specs.declared.operands.Manner.{Manner}
 use Rattle.m386_access.specs.declared.operands.Operand.{Operand}
-use Rattle.m386_access.specs.declared.operands.Operand.TheVariants.{Register, Number, Memory}
+use Rattle.m386_access.specs.declared.operands.Operand.TheVariants.{Register}
 use Rattle.m386_access.specs.declared.operands.Operands.{Operands}
-use Rattle.m386_access.specs.declared.operands.Operands.TheVariants.{One, Two, Three}
+use Rattle.m386_access.specs.declared.operands.Operands.TheVariants.{Absent, One, Two, Three, Others}
 use Rattle.m386_data.specs.Change.{low_of}
 
 -- The register of the upper half of a product or dividend: AH, DX or EDX. That of the lower half is AL, AX or EAX.
@@ -41,20 +41,31 @@ with_product signed w p register a b =
     let found = mul_of signed w (low_of w a) (low_of w b) p.eflags in
     with_register_at w (with_flags p found.2) register found.1
 
+-- the accumulator times an operand
+unfoldable pub multiply_accumulator_phrase : Bool → Width → Proc → Operand → Phrase Proc
+multiply_accumulator_phrase signed w p operand = do
+  b ← value_phrase w p operand
+  Done (multiplied signed w p b)
+
+-- the lower half of the product of two operands, in a register
+unfoldable pub multiply_two_phrase : Bool → Width → Proc → ℕ → Operand → Operand → Phrase Proc
+multiply_two_phrase signed w p register first second = do
+  a ← value_phrase w p first
+  b ← value_phrase w p second
+  Done (with_product signed w p register a b)
+
 -- MUL or IMUL, and the forms of IMUL with two and three operands.
 -- Source: Intel 80386 PRM 17.2.2.11, IMUL, MUL
 unfoldable pub multiply_phrase : Bool → Manner → Operands → Proc → Phrase Proc
-multiply_phrase signed m (One first) p = do
-  b ← value_phrase m.width p first
-  Done (multiplied signed m.width p b)
-multiply_phrase signed m (Two (Register register) second) p = do
-  b ← value_phrase m.width p second
-  Done (with_product signed m.width p register (register_at m.width p register) b)
-multiply_phrase signed m (Three (Register register) second third) p = do
-  a ← value_phrase m.width p second
-  b ← value_phrase m.width p third
-  Done (with_product signed m.width p register a b)
-multiply_phrase signed m _ p = Faults undefined_opcode_of
+multiply_phrase signed m (One first) p = multiply_accumulator_phrase signed m.width p first
+multiply_phrase signed m (Two first second) p = on_register first (λ register. multiply_two_phrase signed m.width p register (Register register) second)
+multiply_phrase signed m (Three first second third) p = on_register first (λ register. multiply_two_phrase signed m.width p register second third)
+multiply_phrase signed m Absent p = Faults undefined_opcode_of
+multiply_phrase signed m Others p = Faults undefined_opcode_of
+
+-- the two registers divided by a number
+abbrev pub quotient_by : Bool → Width → Proc → ℕ → Option (ℕ × ℕ)
+quotient_by signed w p by = div_of signed w (low_of w (register_at w p (upper_register w))) (low_of w (register_at w p eax)) (low_of w by)
 
 -- The quotient in the lower register and the remainder in the upper one, or interrupt 0 where there are none.
 -- Source: Intel 80386 PRM 3.2.4, 9.8.1
@@ -65,7 +76,4 @@ divided_phrase w p None = Faults (fault_of DivideError)
 -- DIV or IDIV of the two registers by an operand.
 -- Source: Intel 80386 PRM 17.2.2.11, DIV, IDIV
 unfoldable pub divide_phrase : Bool → Manner → Operands → Proc → Phrase Proc
-divide_phrase signed m (One first) p = do
-  by ← value_phrase m.width p first
-  divided_phrase m.width p (div_of signed m.width (low_of m.width (register_at m.width p (upper_register m.width))) (low_of m.width (register_at m.width p eax)) (low_of m.width by))
-divide_phrase signed m _ p = Faults undefined_opcode_of
+divide_phrase signed m operands p = on_one operands (λ first. value_phrase m.width p first >>= (λ by. divided_phrase m.width p (quotient_by signed m.width p by)))

@@ -11,12 +11,11 @@ use Rattle.m386_state.specs.declared.proc.Proc.{Proc}
 use Rattle.m386_access.specs.Address.{segment_number, offset_of}
 use Rattle.m386_access.specs.After.{len_of, register_at, with_register_at, with_flags}
 use Rattle.m386_access.specs.Modify.{modify_phrase}
-use Rattle.m386_access.specs.Operands.{value_phrase}
+use Rattle.m386_access.specs.Operands.{value_phrase, on_one, on_two, on_three}
 use Rattle.m386_access.specs.declared.operands.Manner.{Manner}
 use Rattle.m386_access.specs.declared.operands.Operand.{Operand}
 use Rattle.m386_access.specs.declared.operands.Operand.TheVariants.{Register, Number, Memory, Other}
 use Rattle.m386_access.specs.declared.operands.Operands.{Operands}
-use Rattle.m386_access.specs.declared.operands.Operands.TheVariants.{One, Two, Three}
 use Rattle.m386_data.specs.Change.{changed}
 use Rattle.m386_data.specs.declared.change.Change.{Change}
 use Rattle.m386_data.specs.declared.change.Change.TheVariants.{Arithmetic, Shift, DoubleShift}
@@ -42,30 +41,22 @@ change_phrase change m p Other = Faults undefined_opcode_of
 -- ADD, OR, ADC, SBB, AND, SUB or XOR. The second operand is read first.
 -- Source: Intel 80386 PRM 17.2.2.11, ADC, ADD, AND, OR, SBB, SUB, XOR
 unfoldable pub arithmetic_phrase : AluOp → Manner → Operands → Proc → Phrase Proc
-arithmetic_phrase op m (Two first second) p = do
-  b ← value_phrase m.width p second
-  change_phrase (Arithmetic op b) m p first
-arithmetic_phrase op m _ p = Faults undefined_opcode_of
+arithmetic_phrase op m operands p =
+    on_two operands (λ first second. value_phrase m.width p second >>= (λ b. change_phrase (Arithmetic op b) m p first))
 
 -- INC, DEC, NOT or NEG.
 -- Source: Intel 80386 PRM 17.2.2.11, DEC, INC, NEG, NOT
 unfoldable pub single_phrase : Change → Manner → Operands → Proc → Phrase Proc
-single_phrase change m (One first) p = change_phrase change m p first
-single_phrase change m _ p = Faults undefined_opcode_of
+single_phrase change m operands p = on_one operands (change_phrase change m p)
 
 -- A shift or rotate, by a number or CL.
 -- Source: Intel 80386 PRM 17.2.2.11, RCL/RCR/ROL/ROR, SAL/SAR/SHL/SHR
 unfoldable pub shift_phrase : ShiftOp → Manner → Operands → Proc → Phrase Proc
-shift_phrase op m (Two first count) p = do
-  n ← value_phrase W8 p count
-  change_phrase (Shift op n) m p first
-shift_phrase op m _ p = Faults undefined_opcode_of
+shift_phrase op m operands p =
+    on_two operands (λ first count. value_phrase W8 p count >>= (λ n. change_phrase (Shift op n) m p first))
 
 -- SHLD or SHRD, by a number or CL.
 -- Source: Intel 80386 PRM 17.2.2.11, SHLD, SHRD
 unfoldable pub double_shift_phrase : Bool → Manner → Operands → Proc → Phrase Proc
-double_shift_phrase left m (Three first second count) p = do
-  b ← value_phrase m.width p second
-  n ← value_phrase W8 p count
-  change_phrase (DoubleShift left b n) m p first
-double_shift_phrase left m _ p = Faults undefined_opcode_of
+double_shift_phrase left m operands p =
+    on_three operands (λ first second count. value_phrase m.width p second >>= (λ b. value_phrase W8 p count >>= (λ n. change_phrase (DoubleShift left b n) m p first)))

@@ -2,7 +2,7 @@
 ghost use Rattle.std.specs.Prelude.{◌≡◌, ◌<◌, ◌^◌, false};
 ghost use Rattle.m386_alu.specs.Width.{bits};
 ghost use Rattle.m386_base.specs.Phrase.{Performs, it};
-ghost use Rattle.m386_data.specs.BitStrings.{unit_offset, inspect_bit_phrase, memory_bit_phrase, register_bit_phrase, bit_test_phrase};
+ghost use Rattle.m386_data.specs.BitStrings.{unit_offset, inspect_bit_phrase, memory_bit_phrase, register_bit_phrase, bit_string_phrase, bit_of_phrase, bit_test_phrase};
 
 use crate::change::{Change, apply};
 use crate::update::{change_memory, change_operand};
@@ -16,6 +16,7 @@ use m386_base::bus::Bus;
 use m386_base::exception::undefined_opcode;
 use m386_base::fault::Break;
 use m386_base::number::Width;
+use m386_opmap::op::Addr;
 use m386_state::proc::Proc;
 
 /// The offset of the unit of a width that holds bit k of a bit string, where k is read with a sign (PRM 3.4.2).
@@ -34,7 +35,14 @@ fn unit_offset(width: Width, offset: u32, k: u32) -> u32
 
 /// Tests a bit of memory, with LOCK in one locked group.
 #[tactic(auto, using(m386_base::proofs::Phrases::calls), unfolding(crate::specs::BitStrings::inspect_bit_phrase))]
-fn inspect_bit<B: Bus>(manner: Manner, p: &Proc, seg: u8, offset: u32, k: u32, bus: &mut B) -> Result<Proc, Break>
+fn inspect_bit<B: Bus>(
+    manner: Manner,
+    p: &Proc,
+    seg: u8,
+    offset: u32,
+    k: u32,
+    bus: &mut B,
+) -> Result<Proc, Break>
     requires free { (B.view bus.old).kept ≡ false }
     ensures cycles { Performs (inspect_bit_phrase manner p.now seg offset k) (B.view bus.old) (B.view bus.new) it result }
     ensures free { (B.view bus.new).kept ≡ false }
@@ -46,7 +54,15 @@ fn inspect_bit<B: Bus>(manner: Manner, p: &Proc, seg: u8, offset: u32, k: u32, b
 
 /// Tests a bit of memory, and changes it but for BT.
 #[tactic(auto, using(m386_base::proofs::Phrases::calls))]
-fn memory_bit<B: Bus>(op: BitOp, manner: Manner, p: &Proc, seg: u8, offset: u32, k: u32, bus: &mut B) -> Result<Proc, Break>
+fn memory_bit<B: Bus>(
+    op: BitOp,
+    manner: Manner,
+    p: &Proc,
+    seg: u8,
+    offset: u32,
+    k: u32,
+    bus: &mut B,
+) -> Result<Proc, Break>
     requires free { (B.view bus.old).kept ≡ false }
     ensures cycles { Performs (memory_bit_phrase op manner p.now seg offset k) (B.view bus.old) (B.view bus.new) it result }
     ensures free { (B.view bus.new).kept ≡ false }
@@ -61,33 +77,97 @@ fn memory_bit<B: Bus>(op: BitOp, manner: Manner, p: &Proc, seg: u8, offset: u32,
 
 /// Tests a bit of a register.
 #[tactic(auto, using(m386_base::proofs::Phrases::calls), unfolding(crate::specs::BitStrings::register_bit_phrase))]
-fn register_bit<B: Bus>(op: BitOp, manner: Manner, p: &Proc, register: u8, second: Operand, bus: &mut B) -> Result<Proc, Break>
+fn register_bit<B: Bus>(
+    op: BitOp,
+    manner: Manner,
+    p: &Proc,
+    register: u8,
+    second: Operand,
+    bus: &mut B,
+) -> Result<Proc, Break>
     requires free { (B.view bus.old).kept ≡ false }
     ensures cycles { Performs (register_bit_phrase op manner p.now register second) (B.view bus.old) (B.view bus.new) it result }
     ensures free { (B.view bus.new).kept ≡ false }
 {
     let k = value(manner.width, p, second, bus)?;
-    change_operand(Change::Bit(op, k), manner, p, Operand::Register(register), bus)
+    change_operand(
+        Change::Bit(op, k),
+        manner,
+        p,
+        Operand::Register(register),
+        bus,
+    )
+}
+
+/// Tests a bit of memory, by a register or a number.
+#[tactic(auto, using(m386_base::proofs::Phrases::calls))]
+fn bit_string<B: Bus>(
+    op: BitOp,
+    manner: Manner,
+    p: &Proc,
+    a: &Addr,
+    second: Operand,
+    bus: &mut B,
+) -> Result<Proc, Break>
+    requires free { (B.view bus.old).kept ≡ false }
+    ensures cycles { Performs (bit_string_phrase op manner p.now a.now second) (B.view bus.old) (B.view bus.new) it result }
+    ensures free { (B.view bus.new).kept ≡ false }
+{
+    let (seg, offset) = address(p, a);
+    match second {
+        Operand::Register(register) => {
+            let k = register_at(manner.width, p, register);
+            memory_bit(
+                op,
+                manner,
+                p,
+                seg,
+                unit_offset(manner.width, offset, k),
+                k,
+                bus,
+            )
+        }
+        Operand::Number(number) => memory_bit(op, manner, p, seg, offset, number, bus),
+        Operand::Memory(_) | Operand::Other => Err(Break::Fault(undefined_opcode())),
+    }
+}
+
+/// Tests a bit of an operand.
+#[tactic(auto, using(m386_base::proofs::Phrases::calls))]
+fn bit_of<B: Bus>(
+    op: BitOp,
+    manner: Manner,
+    p: &Proc,
+    first: Operand,
+    second: Operand,
+    bus: &mut B,
+) -> Result<Proc, Break>
+    requires free { (B.view bus.old).kept ≡ false }
+    ensures cycles { Performs (bit_of_phrase op manner p.now first second) (B.view bus.old) (B.view bus.new) it result }
+    ensures free { (B.view bus.new).kept ≡ false }
+{
+    match first {
+        Operand::Register(register) => register_bit(op, manner, p, register, second, bus),
+        Operand::Memory(a) => bit_string(op, manner, p, &a, second, bus),
+        Operand::Number(_) | Operand::Other => Err(Break::Fault(undefined_opcode())),
+    }
 }
 
 /// BT, BTS, BTR or BTC.
 #[tactic(auto, using(m386_base::proofs::Phrases::calls), unfolding(crate::specs::BitStrings::bit_test_phrase))]
-pub(crate) fn bit_test<B: Bus>(op: BitOp, manner: Manner, operands: Operands, p: &Proc, bus: &mut B) -> Result<Proc, Break>
+pub(crate) fn bit_test<B: Bus>(
+    op: BitOp,
+    manner: Manner,
+    operands: Operands,
+    p: &Proc,
+    bus: &mut B,
+) -> Result<Proc, Break>
     requires free { (B.view bus.old).kept ≡ false }
     ensures cycles { Performs (bit_test_phrase op manner operands p.now) (B.view bus.old) (B.view bus.new) it result }
     ensures free { (B.view bus.new).kept ≡ false }
 {
     match operands {
-        Operands::Two(Operand::Register(register), second) => register_bit(op, manner, p, register, second, bus),
-        Operands::Two(Operand::Memory(a), Operand::Register(register)) => {
-            let (seg, offset) = address(p, &a);
-            let k = register_at(manner.width, p, register);
-            memory_bit(op, manner, p, seg, unit_offset(manner.width, offset, k), k, bus)
-        }
-        Operands::Two(Operand::Memory(a), Operand::Number(number)) => {
-            let (seg, offset) = address(p, &a);
-            memory_bit(op, manner, p, seg, offset, number, bus)
-        }
+        Operands::Two(first, second) => bit_of(op, manner, p, first, second, bus),
         _ => Err(Break::Fault(undefined_opcode())),
     }
 }

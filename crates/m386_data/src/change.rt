@@ -76,7 +76,14 @@ pub fn apply(change: Change, width: Width, old: u32, flags: Flags) -> (u32, Flag
             left,
             source,
             count,
-        } => double_shift(left, width, a, low(width, source), (count % 256) as u8, flags),
+        } => double_shift(
+            left,
+            width,
+            a,
+            low(width, source),
+            (count % 256) as u8,
+            flags,
+        ),
         Change::Bit(op, k) => bits(op, width, a, (k % bits_of(width)) as u8, flags),
     }
 }

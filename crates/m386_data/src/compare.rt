@@ -25,7 +25,13 @@ pub enum Scan {
 
 /// CMP or TEST: the flags of arithmetic whose result isn't stored.
 #[tactic(auto, using(m386_base::proofs::Phrases::calls), unfolding(crate::specs::Compare::compare_phrase))]
-pub(crate) fn compare<B: Bus>(op: AluOp, manner: Manner, operands: Operands, p: &Proc, bus: &mut B) -> Result<Proc, Break>
+pub(crate) fn compare<B: Bus>(
+    op: AluOp,
+    manner: Manner,
+    operands: Operands,
+    p: &Proc,
+    bus: &mut B,
+) -> Result<Proc, Break>
     requires free { (B.view bus.old).kept ≡ false }
     ensures cycles { Performs (compare_phrase op manner operands p.now) (B.view bus.old) (B.view bus.new) it result }
     ensures free { (B.view bus.new).kept ≡ false }
@@ -34,7 +40,10 @@ pub(crate) fn compare<B: Bus>(op: AluOp, manner: Manner, operands: Operands, p: 
         Operands::Two(first, second) => {
             let b = value(manner.width, p, second, bus)?;
             let a = value(manner.width, p, first, bus)?;
-            Ok(with_flags(p, apply(Change::Arithmetic(op, b), manner.width, a, p.eflags).1))
+            Ok(with_flags(
+                p,
+                apply(Change::Arithmetic(op, b), manner.width, a, p.eflags).1,
+            ))
         }
         _ => Err(Break::Fault(undefined_opcode())),
     }
@@ -64,7 +73,13 @@ fn scanned(scan: Scan, width: Width, p: &Proc, register: u8, n: u32) -> Proc
 
 /// BSF or BSR.
 #[tactic(auto, using(m386_base::proofs::Phrases::calls), unfolding(crate::specs::Compare::scan_phrase))]
-pub(crate) fn scan_bits<B: Bus>(scan: Scan, manner: Manner, operands: Operands, p: &Proc, bus: &mut B) -> Result<Proc, Break>
+pub(crate) fn scan_bits<B: Bus>(
+    scan: Scan,
+    manner: Manner,
+    operands: Operands,
+    p: &Proc,
+    bus: &mut B,
+) -> Result<Proc, Break>
     requires free { (B.view bus.old).kept ≡ false }
     ensures cycles { Performs (scan_phrase scan manner operands p.now) (B.view bus.old) (B.view bus.new) it result }
     ensures free { (B.view bus.new).kept ≡ false }

@@ -5,7 +5,7 @@ ghost use Rattle.m386_access.specs.After.{register_at};
 ghost use Rattle.m386_access.specs.Registers.{eax};
 ghost use Rattle.m386_base.specs.Phrase.{Performs, it};
 ghost use Rattle.m386_data.specs.Change.{low_of};
-ghost use Rattle.m386_data.specs.Products.{upper_register, with_halves, multiplied, with_product, multiply_phrase, divided_phrase, divide_phrase};
+ghost use Rattle.m386_data.specs.Products.{upper_register, with_halves, multiplied, with_product, multiply_accumulator_phrase, multiply_two_phrase, multiply_phrase, quotient_by, divided_phrase, divide_phrase};
 
 use crate::change::low;
 use m386_access::after::{register_at, with_flags, with_register_at};
@@ -54,27 +54,71 @@ fn with_product(signed: bool, width: Width, p: &Proc, register: u8, a: u32, b: u
     with_register_at(width, &with_flags(p, flags), register, lower)
 }
 
+/// Multiplies the accumulator by an operand.
+#[tactic(auto, using(m386_base::proofs::Phrases::calls), unfolding(crate::specs::Products::multiply_accumulator_phrase))]
+fn multiply_accumulator<B: Bus>(
+    signed: bool,
+    width: Width,
+    p: &Proc,
+    operand: Operand,
+    bus: &mut B,
+) -> Result<Proc, Break>
+    requires free { (B.view bus.old).kept ≡ false }
+    ensures cycles { Performs (multiply_accumulator_phrase signed width p.now operand) (B.view bus.old) (B.view bus.new) it result }
+    ensures free { (B.view bus.new).kept ≡ false }
+{
+    let b = value(width, p, operand, bus)?;
+    Ok(multiplied(signed, width, p, b))
+}
+
+/// Puts a register to the lower half of the product of two operands.
+#[tactic(auto, using(m386_base::proofs::Phrases::calls), unfolding(crate::specs::Products::multiply_two_phrase))]
+fn multiply_two<B: Bus>(
+    signed: bool,
+    width: Width,
+    p: &Proc,
+    register: u8,
+    first: Operand,
+    second: Operand,
+    bus: &mut B,
+) -> Result<Proc, Break>
+    requires free { (B.view bus.old).kept ≡ false }
+    ensures cycles { Performs (multiply_two_phrase signed width p.now register first second) (B.view bus.old) (B.view bus.new) it result }
+    ensures free { (B.view bus.new).kept ≡ false }
+{
+    let a = value(width, p, first, bus)?;
+    let b = value(width, p, second, bus)?;
+    Ok(with_product(signed, width, p, register, a, b))
+}
+
 /// MUL or IMUL, and the forms of IMUL with two and three operands.
 #[tactic(auto, using(m386_base::proofs::Phrases::calls), unfolding(crate::specs::Products::multiply_phrase))]
-pub(crate) fn multiply<B: Bus>(signed: bool, manner: Manner, operands: Operands, p: &Proc, bus: &mut B) -> Result<Proc, Break>
+pub(crate) fn multiply<B: Bus>(
+    signed: bool,
+    manner: Manner,
+    operands: Operands,
+    p: &Proc,
+    bus: &mut B,
+) -> Result<Proc, Break>
     requires free { (B.view bus.old).kept ≡ false }
     ensures cycles { Performs (multiply_phrase signed manner operands p.now) (B.view bus.old) (B.view bus.new) it result }
     ensures free { (B.view bus.new).kept ≡ false }
 {
-    let width = manner.width;
     match operands {
-        Operands::One(first) => {
-            let b = value(width, p, first, bus)?;
-            Ok(multiplied(signed, width, p, b))
-        }
+        Operands::One(first) => multiply_accumulator(signed, manner.width, p, first, bus),
         Operands::Two(Operand::Register(register), second) => {
-            let b = value(width, p, second, bus)?;
-            Ok(with_product(signed, width, p, register, register_at(width, p, register), b))
+            multiply_two(
+                signed,
+                manner.width,
+                p,
+                register,
+                Operand::Register(register),
+                second,
+                bus,
+            )
         }
         Operands::Three(Operand::Register(register), second, third) => {
-            let a = value(width, p, second, bus)?;
-            let b = value(width, p, third, bus)?;
-            Ok(with_product(signed, width, p, register, a, b))
+            multiply_two(signed, manner.width, p, register, second, third, bus)
         }
         _ => Err(Break::Fault(undefined_opcode())),
     }
@@ -82,7 +126,7 @@ pub(crate) fn multiply<B: Bus>(signed: bool, manner: Manner, operands: Operands,
 
 /// The two registers divided by a number: the quotient and the remainder, none where it is 0 or the quotient doesn't fit.
 fn quotient(signed: bool, width: Width, p: &Proc, by: u32) -> Option<(u32, u32)>
-    ensures { result ≡ div_of signed width (low_of width (register_at width p.now (upper_register width))) (low_of width (register_at width p.now eax)) (low_of width by) }
+    ensures { result ≡ quotient_by signed width p.now by }
 {
     let upper = low(width, register_at(width, p, upper_register(width)));
     let lower = low(width, register_at(width, p, EAX));
@@ -91,7 +135,13 @@ fn quotient(signed: bool, width: Width, p: &Proc, by: u32) -> Option<(u32, u32)>
 
 /// DIV or IDIV of the two registers by an operand. Interrupt 0 where `quotient` finds none.
 #[tactic(auto, using(m386_base::proofs::Phrases::calls), unfolding(crate::specs::Products::divide_phrase))]
-pub(crate) fn divide<B: Bus>(signed: bool, manner: Manner, operands: Operands, p: &Proc, bus: &mut B) -> Result<Proc, Break>
+pub(crate) fn divide<B: Bus>(
+    signed: bool,
+    manner: Manner,
+    operands: Operands,
+    p: &Proc,
+    bus: &mut B,
+) -> Result<Proc, Break>
     requires free { (B.view bus.old).kept ≡ false }
     ensures cycles { Performs (divide_phrase signed manner operands p.now) (B.view bus.old) (B.view bus.new) it result }
     ensures free { (B.view bus.new).kept ≡ false }
@@ -100,7 +150,12 @@ pub(crate) fn divide<B: Bus>(signed: bool, manner: Manner, operands: Operands, p
         Operands::One(first) => {
             let by = value(manner.width, p, first, bus)?;
             match quotient(signed, manner.width, p, by) {
-                Some((quotient, remainder)) => Ok(with_halves(manner.width, p, remainder, quotient)),
+                Some((quotient, remainder)) => Ok(with_halves(
+                    manner.width,
+                    p,
+                    remainder,
+                    quotient,
+                )),
                 None => Err(Break::Fault(Exception::DivideError.fault())),
             }
         }

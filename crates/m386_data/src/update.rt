@@ -32,7 +32,15 @@ pub(crate) fn change_memory<B: Bus>(
 {
     let flags = p.eflags;
     let width = manner.width;
-    let old = modify(p, bus, seg, offset, len_of(width), manner.lock, |old| apply(change, width, old, flags).0)?;
+    let old = modify(
+        p,
+        bus,
+        seg,
+        offset,
+        len_of(width),
+        manner.lock,
+        |old| apply(change, width, old, flags).0,
+    )?;
     Ok(with_flags(p, apply(change, width, old, flags).1))
 }
 
@@ -45,7 +53,13 @@ fn put_found(width: Width, p: &Proc, register: u8, found: (u32, Flags)) -> Proc
 
 /// Changes an operand, and answers the state after it.
 #[tactic(auto, using(m386_base::proofs::Phrases::calls), unfolding(crate::specs::Update::change_phrase))]
-pub(crate) fn change_operand<B: Bus>(change: Change, manner: Manner, p: &Proc, operand: Operand, bus: &mut B) -> Result<Proc, Break>
+pub(crate) fn change_operand<B: Bus>(
+    change: Change,
+    manner: Manner,
+    p: &Proc,
+    operand: Operand,
+    bus: &mut B,
+) -> Result<Proc, Break>
     requires free { (B.view bus.old).kept ≡ false }
     ensures cycles { Performs (change_phrase change manner p.now operand) (B.view bus.old) (B.view bus.new) it result }
     ensures free { (B.view bus.new).kept ≡ false }
@@ -66,7 +80,13 @@ pub(crate) fn change_operand<B: Bus>(change: Change, manner: Manner, p: &Proc, o
 
 /// ADD, OR, ADC, SBB, AND, SUB or XOR. The second operand is read first.
 #[tactic(auto, using(m386_base::proofs::Phrases::calls), unfolding(crate::specs::Update::arithmetic_phrase))]
-pub(crate) fn arithmetic<B: Bus>(op: AluOp, manner: Manner, operands: Operands, p: &Proc, bus: &mut B) -> Result<Proc, Break>
+pub(crate) fn arithmetic<B: Bus>(
+    op: AluOp,
+    manner: Manner,
+    operands: Operands,
+    p: &Proc,
+    bus: &mut B,
+) -> Result<Proc, Break>
     requires free { (B.view bus.old).kept ≡ false }
     ensures cycles { Performs (arithmetic_phrase op manner operands p.now) (B.view bus.old) (B.view bus.new) it result }
     ensures free { (B.view bus.new).kept ≡ false }
@@ -82,7 +102,13 @@ pub(crate) fn arithmetic<B: Bus>(op: AluOp, manner: Manner, operands: Operands, 
 
 /// INC, DEC, NOT or NEG.
 #[tactic(auto, using(m386_base::proofs::Phrases::calls), unfolding(crate::specs::Update::single_phrase))]
-pub(crate) fn single<B: Bus>(change: Change, manner: Manner, operands: Operands, p: &Proc, bus: &mut B) -> Result<Proc, Break>
+pub(crate) fn single<B: Bus>(
+    change: Change,
+    manner: Manner,
+    operands: Operands,
+    p: &Proc,
+    bus: &mut B,
+) -> Result<Proc, Break>
     requires free { (B.view bus.old).kept ≡ false }
     ensures cycles { Performs (single_phrase change manner operands p.now) (B.view bus.old) (B.view bus.new) it result }
     ensures free { (B.view bus.new).kept ≡ false }
@@ -95,7 +121,13 @@ pub(crate) fn single<B: Bus>(change: Change, manner: Manner, operands: Operands,
 
 /// A shift or rotate, by a number or CL.
 #[tactic(auto, using(m386_base::proofs::Phrases::calls), unfolding(crate::specs::Update::shift_phrase))]
-pub(crate) fn shift_operand<B: Bus>(op: ShiftOp, manner: Manner, operands: Operands, p: &Proc, bus: &mut B) -> Result<Proc, Break>
+pub(crate) fn shift_operand<B: Bus>(
+    op: ShiftOp,
+    manner: Manner,
+    operands: Operands,
+    p: &Proc,
+    bus: &mut B,
+) -> Result<Proc, Break>
     requires free { (B.view bus.old).kept ≡ false }
     ensures cycles { Performs (shift_phrase op manner operands p.now) (B.view bus.old) (B.view bus.new) it result }
     ensures free { (B.view bus.new).kept ≡ false }
@@ -111,7 +143,13 @@ pub(crate) fn shift_operand<B: Bus>(op: ShiftOp, manner: Manner, operands: Opera
 
 /// SHLD or SHRD, by a number or CL.
 #[tactic(auto, using(m386_base::proofs::Phrases::calls), unfolding(crate::specs::Update::double_shift_phrase))]
-pub(crate) fn double_shift_operand<B: Bus>(left: bool, manner: Manner, operands: Operands, p: &Proc, bus: &mut B) -> Result<Proc, Break>
+pub(crate) fn double_shift_operand<B: Bus>(
+    left: bool,
+    manner: Manner,
+    operands: Operands,
+    p: &Proc,
+    bus: &mut B,
+) -> Result<Proc, Break>
     requires free { (B.view bus.old).kept ≡ false }
     ensures cycles { Performs (double_shift_phrase left manner operands p.now) (B.view bus.old) (B.view bus.new) it result }
     ensures free { (B.view bus.new).kept ≡ false }
@@ -120,7 +158,17 @@ pub(crate) fn double_shift_operand<B: Bus>(left: bool, manner: Manner, operands:
         Operands::Three(first, second, count) => {
             let source = value(manner.width, p, second, bus)?;
             let count = value(Width::W8, p, count, bus)?;
-            change_operand(Change::DoubleShift { left, source, count }, manner, p, first, bus)
+            change_operand(
+                Change::DoubleShift {
+                    left,
+                    source,
+                    count,
+                },
+                manner,
+                p,
+                first,
+                bus,
+            )
         }
         _ => Err(Break::Fault(undefined_opcode())),
     }

@@ -1,0 +1,214 @@
+//! Moves and exchanges.
+ghost use Rattle.std.specs.Prelude.{◌≡◌, ◌<◌, ◌^◌, false};
+ghost use Rattle.m386_alu.specs.Width.{bits};
+ghost use Rattle.m386_base.specs.Phrase.{Performs, it};
+ghost use Rattle.m386_data.specs.Moves.{move_phrase, extended_of, extend_phrase, address_phrase, swap_phrase, swapped, exchange_with_phrase, exchange_phrase, table_byte_phrase, translate_phrase, set_phrase};
+
+use crate::change::low;
+use m386_access::access::read;
+use m386_access::address::{address, offset};
+use m386_access::after::{len_of, register_at, with_register_at};
+use m386_access::conditions::{Condition, meets};
+use m386_access::modify::modify;
+use m386_access::operands::{Manner, Operand, Operands, put, value};
+use m386_access::registers::EAX;
+use m386_alu::width::{has_sign, max_of};
+use m386_base::ask::Role;
+use m386_base::bus::Bus;
+use m386_base::exception::undefined_opcode;
+use m386_base::fault::Break;
+use m386_base::number::Width;
+use m386_opmap::op::Addr;
+use m386_state::proc::Proc;
+
+/// MOV.
+#[tactic(auto, using(m386_base::proofs::Phrases::calls), unfolding(crate::specs::Moves::move_phrase))]
+pub(crate) fn move_operand<B: Bus>(
+    manner: Manner,
+    operands: Operands,
+    p: &Proc,
+    bus: &mut B,
+) -> Result<Proc, Break>
+    requires free { (B.view bus.old).kept ≡ false }
+    ensures cycles { Performs (move_phrase manner operands p.now) (B.view bus.old) (B.view bus.new) it result }
+    ensures free { (B.view bus.new).kept ≡ false }
+{
+    match operands {
+        Operands::Two(first, second) => {
+            let found = value(manner.width, p, second, bus)?;
+            put(manner.width, p, first, found, bus)
+        }
+        _ => Err(Break::Fault(undefined_opcode())),
+    }
+}
+
+/// A number of a width as one of 32 bits, with zeros above it or copies of its sign.
+pub(crate) fn extended(signed: bool, from: Width, n: u32) -> u32
+    requires { n < 2 ^ bits from }
+    ensures { result ≡ extended_of signed from n }
+{
+    if signed && has_sign(from, n) {
+        n + (u32::MAX - max_of(from))
+    } else {
+        n
+    }
+}
+
+/// MOVZX or MOVSX, from an operand of a width of its own.
+#[tactic(auto, using(m386_base::proofs::Phrases::calls), unfolding(crate::specs::Moves::extend_phrase))]
+pub(crate) fn extend<B: Bus>(
+    signed: bool,
+    from: Width,
+    manner: Manner,
+    operands: Operands,
+    p: &Proc,
+    bus: &mut B,
+) -> Result<Proc, Break>
+    requires free { (B.view bus.old).kept ≡ false }
+    ensures cycles { Performs (extend_phrase signed from manner operands p.now) (B.view bus.old) (B.view bus.new) it result }
+    ensures free { (B.view bus.new).kept ≡ false }
+{
+    match operands {
+        Operands::Two(first, second) => {
+            let found = value(from, p, second, bus)?;
+            put(
+                manner.width,
+                p,
+                first,
+                extended(signed, from, low(from, found)),
+                bus,
+            )
+        }
+        _ => Err(Break::Fault(undefined_opcode())),
+    }
+}
+
+/// LEA.
+#[tactic(auto, using(m386_base::proofs::Phrases::calls), unfolding(crate::specs::Moves::address_phrase))]
+pub(crate) fn load_address<B: Bus>(
+    manner: Manner,
+    operands: Operands,
+    p: &Proc,
+    bus: &mut B,
+) -> Result<Proc, Break>
+    requires free { (B.view bus.old).kept ≡ false }
+    ensures cycles { Performs (address_phrase manner operands p.now) (B.view bus.old) (B.view bus.new) it result }
+    ensures free { (B.view bus.new).kept ≡ false }
+{
+    match operands {
+        Operands::Two(first, Operand::Memory(a)) => put(manner.width, p, first, offset(p, &a), bus),
+        _ => Err(Break::Fault(undefined_opcode())),
+    }
+}
+
+/// Exchanges memory and a register, in one locked group.
+#[tactic(auto, using(m386_base::proofs::Phrases::calls), unfolding(crate::specs::Moves::swap_phrase))]
+fn swap<B: Bus>(width: Width, p: &Proc, a: &Addr, register: u8, bus: &mut B) -> Result<Proc, Break>
+    requires free { (B.view bus.old).kept ≡ false }
+    ensures cycles { Performs (swap_phrase width p.now a.now register) (B.view bus.old) (B.view bus.new) it result }
+    ensures free { (B.view bus.new).kept ≡ false }
+{
+    let (seg, offset) = address(p, a);
+    let new = register_at(width, p, register);
+    let old = modify(p, bus, seg, offset, len_of(width), true, |_| new)?;
+    Ok(with_register_at(width, p, register, old))
+}
+
+/// Two registers exchanged.
+fn swapped(width: Width, p: &Proc, a: u8, b: u8) -> Proc
+    ensures { result ≡ swapped width p.now a b }
+{
+    let after = with_register_at(width, p, a, register_at(width, p, b));
+    with_register_at(width, &after, b, register_at(width, p, a))
+}
+
+/// Exchanges an operand and a register.
+#[tactic(auto, using(m386_base::proofs::Phrases::calls))]
+fn exchange_with<B: Bus>(
+    width: Width,
+    p: &Proc,
+    operand: Operand,
+    register: u8,
+    bus: &mut B,
+) -> Result<Proc, Break>
+    requires free { (B.view bus.old).kept ≡ false }
+    ensures cycles { Performs (exchange_with_phrase width p.now operand register) (B.view bus.old) (B.view bus.new) it result }
+    ensures free { (B.view bus.new).kept ≡ false }
+{
+    match operand {
+        Operand::Memory(a) => swap(width, p, &a, register, bus),
+        Operand::Register(other) => Ok(swapped(width, p, other, register)),
+        Operand::Number(_) | Operand::Other => Err(Break::Fault(undefined_opcode())),
+    }
+}
+
+/// XCHG. With memory it is one locked group, with LOCK and without it.
+#[tactic(auto, using(m386_base::proofs::Phrases::calls), unfolding(crate::specs::Moves::exchange_phrase))]
+pub(crate) fn exchange<B: Bus>(
+    manner: Manner,
+    operands: Operands,
+    p: &Proc,
+    bus: &mut B,
+) -> Result<Proc, Break>
+    requires free { (B.view bus.old).kept ≡ false }
+    ensures cycles { Performs (exchange_phrase manner operands p.now) (B.view bus.old) (B.view bus.new) it result }
+    ensures free { (B.view bus.new).kept ≡ false }
+{
+    match operands {
+        Operands::Two(first, Operand::Register(register)) => exchange_with(
+            manner.width,
+            p,
+            first,
+            register,
+            bus,
+        ),
+        _ => Err(Break::Fault(undefined_opcode())),
+    }
+}
+
+/// Puts AL to the byte of a table that it is the number of.
+#[tactic(auto, using(m386_base::proofs::Phrases::calls), unfolding(crate::specs::Moves::table_byte_phrase))]
+fn table_byte<B: Bus>(p: &Proc, a: &Addr, bus: &mut B) -> Result<Proc, Break>
+    requires free { (B.view bus.old).kept ≡ false }
+    ensures cycles { Performs (table_byte_phrase p.now a.now) (B.view bus.old) (B.view bus.new) it result }
+    ensures free { (B.view bus.new).kept ≡ false }
+{
+    let (seg, table) = address(p, a);
+    let at = table.wrapping_add(register_at(Width::W8, p, EAX));
+    let found = read(p, bus, Role::Operand, seg, at, 1)?;
+    Ok(with_register_at(Width::W8, p, EAX, found))
+}
+
+/// XLAT.
+#[tactic(auto, using(m386_base::proofs::Phrases::calls), unfolding(crate::specs::Moves::translate_phrase))]
+pub(crate) fn translate<B: Bus>(operands: Operands, p: &Proc, bus: &mut B) -> Result<Proc, Break>
+    requires free { (B.view bus.old).kept ≡ false }
+    ensures cycles { Performs (translate_phrase operands p.now) (B.view bus.old) (B.view bus.new) it result }
+    ensures free { (B.view bus.new).kept ≡ false }
+{
+    match operands {
+        Operands::One(Operand::Memory(a)) => table_byte(p, &a, bus),
+        _ => Err(Break::Fault(undefined_opcode())),
+    }
+}
+
+/// SETcc.
+#[tactic(auto, using(m386_base::proofs::Phrases::calls), unfolding(crate::specs::Moves::set_phrase))]
+pub(crate) fn set<B: Bus>(
+    condition: Condition,
+    operands: Operands,
+    p: &Proc,
+    bus: &mut B,
+) -> Result<Proc, Break>
+    requires free { (B.view bus.old).kept ≡ false }
+    ensures cycles { Performs (set_phrase condition operands p.now) (B.view bus.old) (B.view bus.new) it result }
+    ensures free { (B.view bus.new).kept ≡ false }
+{
+    match operands {
+        Operands::One(first) => {
+            let found = if meets(condition, p.eflags) { 1 } else { 0 };
+            put(Width::W8, p, first, found, bus)
+        }
+        _ => Err(Break::Fault(undefined_opcode())),
+    }
+}
