@@ -9,36 +9,32 @@ use Rattle.m386_base.specs.declared.ask.Ask.{Ask}
 use Rattle.m386_base.specs.declared.ask.Cycle.{Cycle}
 use Rattle.m386_base.specs.Bus.{IsAsk}
 use Rattle.m386_image.specs.declared.image.Image.{Image}
-use Rattle.m386_image.specs.Format.{IsValid}
 use Rattle.m386_memory.specs.Contents.{Contents}
 use Rattle.m386_memory.specs.History.{cycles_of, past, last_cpu}
 use Rattle.m386_memory.specs.declared.ended.ProcEnd.{ProcEnd}
 use Rattle.m386_state.specs.declared.proc.Proc.{Proc}
 use Rattle.m386_step.specs.Run.{start_of, plan_of}
-use Rattle.m386_step.specs.Steps.{Runs}
-use Rattle.m386_core.specs.declared.seat.Seat.{Seat}
+use Rattle.m386_step.specs.Steps.{Plan}
+use Rattle.m386_core.specs.declared.unfinished.Unfinished.{Unfinished}
 use Rattle.m386_core.specs.Kept.{IsKept, is_another}
 use Rattle.m386_core.specs.Machine.{IsPlaced, IsMachine}
 use Rattle.m386_core.specs.Place.{HasFinishedAs, WaitsAs, HasFinished, IsAmidGroup, IsPassedOver}
-use Rattle.m386_core.specs.Seat.{Waits, IsSeated, is_joined}
-use Rattle.m386_core.proofs.Places.{amid_after, amid_not_finished, amid_same, no_plan}
+use Rattle.m386_core.specs.Plans.{entries_left}
+use Rattle.m386_core.specs.Unfinished.{Waits, EndsOrWaits, is_joined}
+use Rattle.m386_core.proofs.Places.{amid_behind, amid_not_finished, amid_same}
 
 -- ---- one processor
 
 -- a processor that waits, by the definition
-pub waits_as : (I : Image) (n : ℕ) (H : List Cycle) (p : ℕ) (e : ProcEnd Proc) (answers : List ℕ) (a : Ask) → IsValid I → Waits n (start_of I p) (cycles_of p H) e answers a → WaitsAs I n H p e a
-waits_as I n H p e answers a v w = record {
+pub waits_as : (I : Image) (n : ℕ) (H : List Cycle) (p : ℕ) (e : ProcEnd Proc) (answers : List ℕ) (left : Plan) (a : Ask) → Waits n (plan_of I p) (start_of I p) (cycles_of p H) e answers left a → WaitsAs I n H p e a
+waits_as I n H p e answers left a w = record {
   fewer = w.fewer;
-  amid = rw (no_plan I p v, w.cycles) (amid_after e.steps 0 (start_of I p) e.after w.whole w.front a w.steps w.lives w.wants);
+  amid = rw w.cycles (amid_behind (plan_of I p) e.steps (start_of I p) e.after w.whole w.front left a w.steps w.lives w.wants);
 }
 
--- one that has finished
-pub finished_as : (I : Image) (n : ℕ) (H : List Cycle) (p : ℕ) (e : ProcEnd Proc) → IsValid I → Runs [] n (start_of I p) (cycles_of p H) e.after e.steps → HasFinishedAs I n H p e
-finished_as I n H p e v r = rw (no_plan I p v) r
-
-placed : (I : Image) (n : ℕ) (H : List Cycle) (p : ℕ) (e : ProcEnd Proc) (answers : List ℕ) (next : Option Ask) → IsValid I → IsSeated n (start_of I p) (cycles_of p H) e answers next → IsPlaced I n H p e
-placed I n H p e answers None v h = inl (finished_as I n H p e v h)
-placed I n H p e answers (Some a) v h = inr (a, waits_as I n H p e answers a v h)
+placed : (I : Image) (n : ℕ) (H : List Cycle) (p : ℕ) (e : ProcEnd Proc) (answers : List ℕ) (left : Plan) (next : Option Ask) → EndsOrWaits n (plan_of I p) (start_of I p) (cycles_of p H) e answers left next → IsPlaced I n H p e
+placed I n H p e answers left None h = inl h
+placed I n H p e answers left (Some a) h = inr (a, waits_as I n H p e answers left a h)
 
 -- ---- all of them
 
@@ -63,31 +59,31 @@ err_is_not_ok (Err x) t h e = cc
 read_twice : {X : Type 0} (xs : List X) (i : ℕ) (x y : X) → i < length xs → x ≡ get_or xs i x → y ≡ get_or xs i y → x ≡ y
 read_twice xs i x y lt a b = a ∙ get_or_default xs i x y lt ∙ sym b
 
--- the state and the seat of a processor
-pub record HasSeat (I : Image) (n : ℕ) (H : List Cycle) (E : List (ProcEnd Proc)) (seats : List Seat) (p : ℕ) : Type 0 where
+-- the state and the unfinished step of a processor
+pub record HasParts (I : Image) (n : ℕ) (H : List Cycle) (E : List (ProcEnd Proc)) (unfinished : List Unfinished) (p : ℕ) : Type 0 where
   pub state : ProcEnd Proc
-  pub seat : Seat
+  pub step : Unfinished
   pub state_is : get_or E p state ≡ state
-  pub seat_is : get_or seats p seat ≡ seat
-  pub seated : IsSeated n (start_of I p) (cycles_of p H) state seat.answers.items seat.next
+  pub step_is : get_or unfinished p step ≡ step
+  pub each : EndsOrWaits n (plan_of I p) (start_of I p) (cycles_of p H) state step.answers.items (entries_left p step.plan) step.next
 
-module _ (I : Image) (c n : ℕ) (first : Contents) (H : List Cycle) (E : List (ProcEnd Proc)) (seats : List Seat) (midgroup : Option ℕ) (k : IsKept I c n first H E seats midgroup) where
-  seated_at : (p : ℕ) (e : ProcEnd Proc) (t : Seat) → p < c → get_or E p e ≡ e → get_or seats p t ≡ t → IsSeated n (start_of I p) (cycles_of p H) e t.answers.items t.next
-  seated_at p e t lt ee tt-is =
-      let P : ProcEnd Proc → Seat → Type 0 = λ x y. IsSeated n (start_of I p) (cycles_of p H) x y.answers.items y.next in
-      subst (λ (y : Seat). P e y) tt-is (subst (λ (x : ProcEnd Proc). P x (get_or seats p t)) ee (k.seated p e t lt))
+module _ (I : Image) (c n : ℕ) (first : Contents) (H : List Cycle) (E : List (ProcEnd Proc)) (unfinished : List Unfinished) (midgroup : Option ℕ) (k : IsKept I c n first H E unfinished midgroup) where
+  each_at : (p : ℕ) (e : ProcEnd Proc) (t : Unfinished) → p < c → get_or E p e ≡ e → get_or unfinished p t ≡ t → EndsOrWaits n (plan_of I p) (start_of I p) (cycles_of p H) e t.answers.items (entries_left p t.plan) t.next
+  each_at p e t lt ee tt-is =
+      let P : ProcEnd Proc → Unfinished → Type 0 = λ x y. EndsOrWaits n (plan_of I p) (start_of I p) (cycles_of p H) x y.answers.items (entries_left p y.plan) y.next in
+      subst (λ (y : Unfinished). P e y) tt-is (subst (λ (x : ProcEnd Proc). P x (get_or unfinished p t)) ee (k.each p e t lt))
 
-  pub seat_of : (p : ℕ) → p < c → HasSeat I n H E seats p
-  seat_of p lt =
+  pub parts_of : (p : ℕ) → p < c → HasParts I n H E unfinished p
+  parts_of p lt =
       let e = item E p (omega (arith, k.count)) in
-      let t = item seats p (omega (arith, k.count_seats)) in
-      record { state = e.0; seat = t.0; state_is = e.1; seat_is = t.1; seated = seated_at p e.0 t.0 lt e.1 t.1 }
+      let t = item unfinished p (omega (arith, k.count_unfinished)) in
+      record { state = e.0; step = t.0; state_is = e.1; step_is = t.1; each = each_at p e.0 t.0 lt e.1 t.1 }
 
   pub placed_at : (p : ℕ) (e : ProcEnd Proc) → slice_get E p ≡ Some e → IsPlaced I n H p e
   placed_at p e is =
       let lt : p < c = omega (arith, k.count, slice_get_within E p e is) in
-      let t = item seats p (omega (arith, k.count_seats)) in
-      placed I n H p e t.0.answers.items t.0.next k.valid (seated_at p e t.0 lt (get_or_from_slice_get E p e e is) t.1)
+      let t = item unfinished p (omega (arith, k.count_unfinished)) in
+      placed I n H p e t.0.answers.items (entries_left p t.0.plan) t.0.next (each_at p e t.0 lt (get_or_from_slice_get E p e e is) t.1)
 
   pub kept_machine : IsMachine (record { image = I; cpus = c; budget = n; log = record { first = first; cycles = H }; ends = E })
   kept_machine = record {
@@ -100,33 +96,33 @@ module _ (I : Image) (c n : ℕ) (first : Contents) (H : List Cycle) (E : List (
 
   -- ---- which processors are passed over
 
-  pub waits_at : (p : ℕ) (e : ProcEnd Proc) (t : Seat) (a : Ask) → p < c → get_or E p e ≡ e → get_or seats p t ≡ t → t.next ≡ Some a → Waits n (start_of I p) (cycles_of p H) e t.answers.items a
+  pub waits_at : (p : ℕ) (e : ProcEnd Proc) (t : Unfinished) (a : Ask) → p < c → get_or E p e ≡ e → get_or unfinished p t ≡ t → t.next ≡ Some a → Waits n (plan_of I p) (start_of I p) (cycles_of p H) e t.answers.items (entries_left p t.plan) a
   waits_at p e t a lt e-is t-is next =
-      let h : IsSeated n (start_of I p) (cycles_of p H) e t.answers.items t.next = seated_at p e t lt e-is t-is in
+      let h : EndsOrWaits n (plan_of I p) (start_of I p) (cycles_of p H) e t.answers.items (entries_left p t.plan) t.next = each_at p e t lt e-is t-is in
       rw next at h
 
-  -- the same by what was read of the state and, twice, of the seat
-  pub waits_on : (p : ℕ) (x y : Seat) (e : ProcEnd Proc) (a : Ask) → p < c → x ≡ get_or seats p x → y ≡ get_or seats p y → e ≡ get_or E p e → x.next ≡ Some a → Waits n (start_of I p) (cycles_of p H) e y.answers.items a
+  -- the same by what was read of the state and, twice, of the unfinished step
+  pub waits_on : (p : ℕ) (x y : Unfinished) (e : ProcEnd Proc) (a : Ask) → p < c → x ≡ get_or unfinished p x → y ≡ get_or unfinished p y → e ≡ get_or E p e → x.next ≡ Some a → Waits n (plan_of I p) (start_of I p) (cycles_of p H) e y.answers.items (entries_left p y.plan) a
   waits_on p x y e a lt x-is y-is e-is next =
-      let same : x ≡ y = read_twice seats p x y (omega (arith, k.count_seats)) x-is y-is in
-      waits_at p e y a lt (sym e-is) (sym y-is) (ap (λ (t : Seat). t.next) (sym same) ∙ next)
+      let same : x ≡ y = read_twice unfinished p x y (omega (arith, k.count_unfinished)) x-is y-is in
+      waits_at p e y a lt (sym e-is) (sym y-is) (ap (λ (t : Unfinished). t.next) (sym same) ∙ next)
 
-  pub finished_at : (p : ℕ) (t : Seat) → p < c → get_or seats p t ≡ t → t.next ≡ None → HasFinished I n H p
+  pub finished_at : (p : ℕ) (t : Unfinished) → p < c → get_or unfinished p t ≡ t → t.next ≡ None → HasFinished I n H p
   finished_at p t lt t-is next =
       let e = item E p (omega (arith, k.count)) in
-      let h : IsSeated n (start_of I p) (cycles_of p H) e.0 t.answers.items t.next = seated_at p e.0 t lt e.1 t-is in
-      (e.0, finished_as I n H p e.0 k.valid (rw next at h))
+      let h : EndsOrWaits n (plan_of I p) (start_of I p) (cycles_of p H) e.0 t.answers.items (entries_left p t.plan) t.next = each_at p e.0 t lt e.1 t-is in
+      (e.0, (rw next at h))
 
-  joined_at : (q : ℕ) (e : ProcEnd Proc) (answers : List ℕ) (next : Option Ask) → q < c → IsSeated n (start_of I q) (cycles_of q H) e answers next → is_joined next ≡ true → IsAmidGroup I c n H q
-  joined_at q e answers None lt h j = absurd (let d : false ≡ true = j in cc)
-  joined_at q e answers (Some a) lt h j = (lt, (a, (e, waits_as I n H q e answers a k.valid h), j))
+  joined_at : (q : ℕ) (e : ProcEnd Proc) (answers : List ℕ) (left : Plan) (next : Option Ask) → q < c → EndsOrWaits n (plan_of I q) (start_of I q) (cycles_of q H) e answers left next → is_joined next ≡ true → IsAmidGroup I c n H q
+  joined_at q e answers left None lt h j = absurd (let d : false ≡ true = j in cc)
+  joined_at q e answers left (Some a) lt h j = (lt, (a, (e, waits_as I n H q e answers left a h), j))
 
   -- the processor that is named is amid a locked group
   pub amid_of_name : (q : ℕ) → midgroup ≡ Some q → IsAmidGroup I c n H q
   amid_of_name q is =
-      let s = seat_of q (k.amid.below q is) in
-      let j : is_joined s.seat.next ≡ true = subst (λ (y : Seat). is_joined y.next ≡ true) s.seat_is (k.amid.joined q s.seat is) in
-      joined_at q s.state s.seat.answers.items s.seat.next (k.amid.below q is) s.seated j
+      let s = parts_of q (k.amid.below q is) in
+      let j : is_joined s.step.next ≡ true = subst (λ (y : Unfinished). is_joined y.next ≡ true) s.step_is (k.amid.joined q s.step is) in
+      joined_at q s.state s.step.answers.items (entries_left q s.step.plan) s.step.next (k.amid.below q is) s.each j
 
   pub held_up : (p : ℕ) → is_another midgroup p ≡ true → IsPassedOver I c n H p
   held_up p h = inr (go midgroup refl h)
@@ -136,23 +132,23 @@ module _ (I : Image) (c n : ℕ) (first : Contents) (H : List Cycle) (E : List (
       go (Some q) is h = (q, (λ e. grind (arith, h, e)), amid_of_name q is)
 
   -- a processor whose next ask is joined is the one that is named
-  named_at : (q : ℕ) (e2 : ProcEnd Proc) (b : Ask) (e : ProcEnd Proc) (t : Seat) (next : Option Ask) → q < c → get_or seats q t ≡ t → t.next ≡ next → IsSeated n (start_of I q) (cycles_of q H) e t.answers.items next → WaitsAs I n H q e2 b → b.joined ≡ true → midgroup ≡ Some q
-  named_at q e2 b e t None lt t-is is h w j = absurd (amid_not_finished e2.steps n (plan_of I q) (start_of I q) e2.after (cycles_of q H) b e w.fewer w.amid (finished_as I n H q e k.valid h))
+  named_at : (q : ℕ) (e2 : ProcEnd Proc) (b : Ask) (e : ProcEnd Proc) (t : Unfinished) (next : Option Ask) → q < c → get_or unfinished q t ≡ t → t.next ≡ next → EndsOrWaits n (plan_of I q) (start_of I q) (cycles_of q H) e t.answers.items (entries_left q t.plan) next → WaitsAs I n H q e2 b → b.joined ≡ true → midgroup ≡ Some q
+  named_at q e2 b e t None lt t-is is h w j = absurd (amid_not_finished e2.steps n (plan_of I q) (start_of I q) e2.after (cycles_of q H) b e w.fewer w.amid h)
   named_at q e2 b e t (Some a) lt t-is is h w j =
-      let v = waits_as I n H q e t.answers.items a k.valid h in
+      let v = waits_as I n H q e t.answers.items (entries_left q t.plan) a h in
       let same : a ≡ b = amid_same e.steps e2.steps (plan_of I q) 0 (start_of I q) e.after e2.after (cycles_of q H) a b v.amid w.amid in
       let joined : is_joined t.next ≡ true = rw (is, same) j in
-      k.amid.alone q t lt (subst (λ (y : Seat). is_joined y.next ≡ true) (sym t-is) joined)
+      k.amid.alone q t lt (subst (λ (y : Unfinished). is_joined y.next ≡ true) (sym t-is) joined)
 
   pub name_of_amid : (q : ℕ) → IsAmidGroup I c n H q → midgroup ≡ Some q
   name_of_amid q h =
-      let s = seat_of q h.0 in
-      named_at q h.1.1.0 h.1.0 s.state s.seat s.seat.next h.0 s.seat_is refl s.seated h.1.1.1 h.1.2
+      let s = parts_of q h.0 in
+      named_at q h.1.1.0 h.1.0 s.state s.step s.step.next h.0 s.step_is refl s.each h.1.1.1 h.1.2
 
-  pub not_passed : (p : ℕ) (t : Seat) (a : Ask) → p < c → is_another midgroup p ≡ false → get_or seats p t ≡ t → t.next ≡ Some a → IsPassedOver I c n H p → ⊥
+  pub not_passed : (p : ℕ) (t : Unfinished) (a : Ask) → p < c → is_another midgroup p ≡ false → get_or unfinished p t ≡ t → t.next ≡ Some a → IsPassedOver I c n H p → ⊥
   not_passed p t a lt alone t-is next (inl f) =
       let e = item E p (omega (arith, k.count)) in
-      let w = waits_as I n H p e.0 t.answers.items a k.valid (waits_at p e.0 t a lt e.1 t-is next) in
+      let w = waits_as I n H p e.0 t.answers.items (entries_left p t.plan) a (waits_at p e.0 t a lt e.1 t-is next) in
       amid_not_finished e.0.steps n (plan_of I p) (start_of I p) e.0.after (cycles_of p H) a f.0 w.fewer w.amid f.1
   not_passed p t a lt alone t-is next (inr h) =
       let named : midgroup ≡ Some h.0 = name_of_amid h.0 h.2 in
@@ -169,7 +165,7 @@ module _ (I : Image) (c n : ℕ) (first : Contents) (H : List Cycle) (E : List (
       h.1 (let e : h.0 ≡ q = cc in e)
 
   -- where none is named, each that hasn't finished isn't passed over
-  pub open_not_passed : (p : ℕ) (t : Seat) → midgroup ≡ None → p < c → get_or seats p t ≡ t → is_some t.next ≡ true → IsPassedOver I c n H p → ⊥
+  pub open_not_passed : (p : ℕ) (t : Unfinished) → midgroup ≡ None → p < c → get_or unfinished p t ≡ t → is_some t.next ≡ true → IsPassedOver I c n H p → ⊥
   open_not_passed p t none lt t-is some h = go t.next refl
     where
       go : (next : Option Ask) → t.next ≡ next → ⊥
@@ -177,13 +173,13 @@ module _ (I : Image) (c n : ℕ) (first : Contents) (H : List Cycle) (E : List (
       go (Some a) e = not_passed p t a lt (rw none refl) t-is e h
 
   -- a joined ask follows the processor's own cycle
-  pub joined_follows : (p : ℕ) (t : Seat) (a : Ask) → p < c → get_or seats p t ≡ t → t.next ≡ Some a → a.joined ≡ true → last_cpu (past H) ≡ Some p
+  pub joined_follows : (p : ℕ) (t : Unfinished) (a : Ask) → p < c → get_or unfinished p t ≡ t → t.next ≡ Some a → a.joined ≡ true → last_cpu (past H) ≡ Some p
   joined_follows p t a lt t-is next j =
       let joined : is_joined t.next ≡ true = rw next j in
-      k.amid.last p (k.amid.alone p t lt (subst (λ (y : Seat). is_joined y.next ≡ true) (sym t-is) joined))
+      k.amid.last p (k.amid.alone p t lt (subst (λ (y : Unfinished). is_joined y.next ≡ true) (sym t-is) joined))
 
   -- one that isn't passed over asks for a cycle that may be made
-  pub lawful_at : (p : ℕ) (t : Seat) (a : Ask) → p < c → get_or seats p t ≡ t → t.next ≡ Some a → IsAsk a
+  pub lawful_at : (p : ℕ) (t : Unfinished) (a : Ask) → p < c → get_or unfinished p t ≡ t → t.next ≡ Some a → IsAsk a
   lawful_at p t a lt t-is next =
       let e = item E p (omega (arith, k.count)) in
       (waits_at p e.0 t a lt e.1 t-is next).lawful

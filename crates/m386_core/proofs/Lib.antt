@@ -6,5 +6,5 @@ pub mod Lengths
 pub mod Orders
 pub mod Places
 pub mod Runs
-pub mod Seats
 pub mod Turning
+pub mod UnfinishedSteps

@@ -16,9 +16,6 @@ pub record TurnSoFar (first : ℕ) (old now : MachineView) (number : ℕ) : Type
   pub below : number < old.cpus
   pub order : (order : Order) (a : ℕ) (f : ℕ → Naming) → first ≡ a % old.cpus → Rises old.cpus a f → Stands order old (f 0) → (i : ℕ) × (number ≡ (a + i) % old.cpus) × Stands order old (f i)
 
-pub turn_begins : (first : ℕ) (m : MachineView) → first < m.cpus → TurnSoFar first m m first
-turn_begins first m lt = record { unchanged = refl; below = lt; order = λ order a f e r s. (0, e ∙ ap (λ (x : ℕ). x % m.cpus) (sym (add-zero a)), s) }
-
 -- one more is passed over
 pub turn_passes : (first : ℕ) (old now new : MachineView) (number next : ℕ) → TurnSoFar first old now number → new ≡ now → PassesOver now number → next < now.cpus → ((a : ℕ) → number ≡ a % now.cpus → next ≡ (a + 1) % now.cpus) → TurnSoFar first old new next
 turn_passes first old now new number next t same over lt follows =

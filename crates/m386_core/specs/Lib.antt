@@ -2,5 +2,6 @@ pub mod Kept
 pub mod Machine
 pub mod Order
 pub mod Place
+pub mod Plans
 pub mod Running
-pub mod Seat
+pub mod Unfinished

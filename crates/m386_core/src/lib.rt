@@ -3,8 +3,9 @@
 
 pub mod machine;
 pub mod order;
+mod plans;
 mod running;
-mod seat;
 #[cfg(test)]
 mod tests;
 pub mod turn;
+mod unfinished;

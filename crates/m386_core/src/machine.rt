@@ -7,8 +7,9 @@ ghost use Rattle.m386_core.specs.Machine.{IsMachine, MakesCycle, MakesGroup, Goe
 ghost use Rattle.m386_core.specs.Place.{HasFinished};
 ghost use Rattle.m386_core.specs.declared.turn.Turn.TheVariants as turns;
 
-use crate::seat::{Seat, settle};
+use crate::plans::PlanLeft;
 use crate::turn::Turn;
+use crate::unfinished::{Unfinished, settle};
 use arrayvec::ArrayVec;
 use m386_base::fault::NoMemory;
 use m386_base::list::List;
@@ -32,7 +33,7 @@ pub struct Machine<'a> {
     budget: u32,
     log: Record,
     ends: Vec<ProcEnd<Proc>>,
-    seats: Vec<Seat>,
+    unfinished: Vec<Unfinished<'a>>,
     midgroup: Option<u8>,
 }
 
@@ -44,7 +45,7 @@ impl<'a> Model for Machine<'a> {
 
     ghost view = { λ m. record { image = m.image.now; cpus = m.cpus; budget = m.budget; log = m.log; ends = m.ends.items } };
 
-    ghost invariant = { λ m. IsKept m.image.now m.cpus m.budget m.log.first m.log.cycles m.ends.items m.seats.items m.midgroup };
+    ghost invariant = { λ m. IsKept m.image.now m.cpus m.budget m.log.first m.log.cycles m.ends.items m.unfinished.items m.midgroup };
 }
 
 /// Whether a processor other than this one is amid a locked group.
@@ -77,15 +78,17 @@ impl<'a> Machine<'a> {
     {
         let log = Record::new(alloc, first_store(alloc, image)?);
         let mut ends = Vec::new(alloc);
-        let mut seats = Vec::new(alloc);
+        let mut unfinished = Vec::new(alloc);
         for cpu in 0..cpus {
             let mut end = ProcEnd {
                 after: start(image, cpu),
                 steps: 0,
             };
-            let next = settle(&mut end, steps);
+            let mut plan = PlanLeft::of(image.plan.as_slice(), cpu);
+            let next = settle(&mut end, &mut plan, cpu, steps);
             ends.push(end)?;
-            seats.push(Seat {
+            unfinished.push(Unfinished {
+                plan,
                 answers: ArrayVec::new(),
                 next,
             })?;
@@ -96,7 +99,7 @@ impl<'a> Machine<'a> {
             budget: steps,
             log,
             ends,
-            seats,
+            unfinished,
             midgroup: None,
         })
     }
@@ -141,12 +144,12 @@ impl<'a> Machine<'a> {
         if is_held_up(self.midgroup, cpu) {
             return Ok(Turn::PassedOver);
         }
-        let Some(ask) = self.seats[at].next else {
+        let Some(ask) = self.unfinished[at].next else {
             return Ok(Turn::PassedOver);
         };
         let value = self.log.put(cpu, ask)?;
-        self.seats[at].hear(&mut self.ends[at], self.budget, value);
-        self.midgroup = self.seats[at].midgroup(cpu);
+        self.unfinished[at].hear(&mut self.ends[at], cpu, self.budget, value);
+        self.midgroup = self.unfinished[at].midgroup(cpu);
         Ok(Turn::Made)
     }
 
@@ -192,7 +195,7 @@ impl<'a> Machine<'a> {
             return self.midgroup;
         }
         for cpu in 0..self.cpus {
-            if self.seats[cpu as usize].next.is_some() {
+            if self.unfinished[cpu as usize].next.is_some() {
                 return Some(cpu);
             }
         }

@@ -4,14 +4,19 @@ ghost use Rattle.m386_image.specs.Format.{IsValid};
 
 use crate::machine::Machine;
 use crate::order::Order;
+use crate::plans::PlanLeft;
 use crate::turn::Turn;
+use crate::unfinished::{Unfinished, settle};
+use arrayvec::ArrayVec;
 use m386_base::ask::{Ask, Cycle, Role, Space};
 use m386_base::fault::NoMemory;
 use m386_base::list::List;
 use m386_image::fault::ReadStop;
-use m386_image::image::Image;
+use m386_image::image::{Image, Planned};
 use m386_image::reading::read_image;
-use m386_state::proc::Mode;
+use m386_memory::ended::ProcEnd;
+use m386_state::proc::{Mode, Proc, start_bare};
+use m386_state::segment::TableReg;
 use std::alloc::Global;
 use std::test::Fail;
 
@@ -155,16 +160,18 @@ fn a_locked_group_lets_no_other_in(rt: HostRuntime) -> Result<(), Fail> {
 
 #[test]
 fn steps_without_a_cycle_are_taken_at_once(rt: HostRuntime) -> Result<(), Fail> {
-    // Processor 0 finds no operation in zeros and shuts down, and processor 1 halts.
+    // Processor 0 finds no operation at 1004 and shuts down, and processor 1 halts.
     let mut bytes = EXCHANGE;
-    bytes[33] = 0x20;
+    bytes[32] = 0x04;
+    bytes[76] = 0x0f;
+    bytes[77] = 0x0b;
     bytes[72] = 0xf4;
     let image = read_image(rt.alloc(), &bytes)?;
     assert!(rt; image.cpus >= 2);
     let mut machine = Machine::new(rt.alloc(), &image, 2, 5)?;
     machine.run_order(&Order::Round)?;
     let ended = machine.ended();
-    let values = [0, 0x01f4];
+    let values = [0x0005_0b0f, 0x01f4];
     for (cycle, value) in ended.log.cycles().iter().zip(values) {
         assert_eq!(rt; cycle.ask.value, value);
     }
@@ -174,4 +181,77 @@ fn steps_without_a_cycle_are_taken_at_once(rt: HostRuntime) -> Result<(), Fail> 
         assert_eq!(rt; (end.steps, end.after.mode), (steps, mode));
     }
     Ok(())
+}
+
+/// An entry of a plan.
+fn entry(step: u32, cpu: u8, vector: u8) -> Planned {
+    Planned { step, cpu, vector }
+}
+
+/// Interrupts for two processors, in no order.
+fn plan() -> [Planned; 5] {
+    [
+        entry(0, 1, 0x40),
+        entry(1, 0, 0x20),
+        entry(0, 0, 0x21),
+        entry(2, 1, 0x41),
+        entry(3, 0, 0x22),
+    ]
+}
+
+/// The start of a bare processor, without tables.
+fn bare(eip: u32) -> Proc {
+    let none = TableReg { base: 0, limit: 0 };
+    start_bare(eip, none, none)
+}
+
+#[test]
+fn a_plan_gives_one_request_at_a_time(rt: HostRuntime) {
+    // Before the step behind so many: whether a request stands, and the request then.
+    let rows = [
+        (0, None, None),
+        (1, Some(7), Some(7)),
+        (1, None, Some(0x20)),
+        (1, Some(0x20), Some(0x20)),
+        (2, None, Some(0x21)),
+        (2, None, None),
+        (3, None, Some(0x22)),
+        (9, None, None),
+    ];
+    let mut p = bare(0x1000);
+    let entries = plan();
+    let mut left = PlanLeft::of(&entries, 0);
+    for (steps, stands, wanted) in rows {
+        p.request = stands;
+        assert_eq!(rt; left.begun(steps, &p).request, wanted, "{steps}");
+        left = left.after(0, steps, &p);
+    }
+    assert_eq!(rt; left.front, None);
+}
+
+#[test]
+fn a_planned_request_comes_before_its_step(rt: HostRuntime) {
+    // HLT at 1000, in a processor that lets interrupts in: an entry for the step behind it ends in a delivery.
+    let mut end = ProcEnd {
+        after: bare(0x1000),
+        steps: 0,
+    };
+    end.after.eflags.0 = 0x202;
+    let entries = plan();
+    let mut left = PlanLeft::of(&entries, 0);
+    let next = settle(&mut end, &mut left, 0, 5);
+    assert_eq!(rt; next.map(|ask| ask.addr), Some(0x1000));
+    let mut step = Unfinished {
+        plan: left,
+        answers: ArrayVec::new(),
+        next,
+    };
+    if end.steps < 5 && end.after.mode != Mode::Shutdown {
+        step.hear(&mut end, 0, 5, 0xf4);
+    }
+    assert_eq!(rt; (end.steps, end.after.mode), (2, Mode::Shutdown));
+    assert_eq!(rt;
+        (step.next, step.plan.front),
+        (None, Some(entry(0, 0, 0x21)))
+    );
 }

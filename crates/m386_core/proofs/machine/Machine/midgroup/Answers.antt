@@ -5,11 +5,11 @@ pub returns-clause-named : goal.returns-clause-named
 returns-clause-named c =
     let i = c.self.inside in
     rw (← c.self.view_is) (λ q. (
-      amid_of_name i.image.now i.cpus i.budget i.log.first i.log.cycles i.ends.items i.seats.items i.midgroup c.self.invariant q,
-      name_of_amid i.image.now i.cpus i.budget i.log.first i.log.cycles i.ends.items i.seats.items i.midgroup c.self.invariant q,
+      amid_of_name i.image.now i.cpus i.budget i.log.first i.log.cycles i.ends.items i.unfinished.items i.midgroup c.self.invariant q,
+      name_of_amid i.image.now i.cpus i.budget i.log.first i.log.cycles i.ends.items i.unfinished.items i.midgroup c.self.invariant q,
     ))
 
 pub returns-clause-kept : goal.returns-clause-kept
 returns-clause-kept c =
     let i = c.self.inside in
-    rw (← c.self.view_is) (kept_machine i.image.now i.cpus i.budget i.log.first i.log.cycles i.ends.items i.seats.items i.midgroup c.self.invariant)
+    rw (← c.self.view_is) (kept_machine i.image.now i.cpus i.budget i.log.first i.log.cycles i.ends.items i.unfinished.items i.midgroup c.self.invariant)

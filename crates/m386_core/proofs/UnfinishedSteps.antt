@@ -1,5 +1,5 @@
 -- What a probe says of the cycles of a step, and what follows for the processor that made them.
-use Rattle.std.proofs.Common.{◌≡◌, ◌≢◌, ℕ, ◌+◌, ◌<◌, true, List, [], ◌∷◌, ◌++◌, length, refl, sym, ap, ◌∙◌, append_assoc, append-nil, add-one, arith, bit_and, cond, false, Bool}
+use Rattle.std.proofs.Common.{◌≡◌, ◌≢◌, ℕ, ◌+◌, ◌<◌, true, List, [], ◌∷◌, ◌++◌, length, refl, sym, ap, ◌∙◌, append_assoc, append-nil, arith, bit_and, cond, false, Bool}
 use Rattle.std.proofs.lemmas.List.{length-append}
 use Rattle.m386_base.specs.declared.ask.Ask.{Ask}
 use Rattle.m386_base.specs.Bus.{IsAsk, IsEnabled, cycle_of, mask}
@@ -16,10 +16,10 @@ use Rattle.m386_step.specs.declared.answer.Probe.{Probe}
 use Rattle.m386_step.specs.declared.answer.Probe.TheVariants as probes
 use Rattle.m386_step.specs.Probes.{Probes}
 use Rattle.m386_step.specs.Step.{step_phrase, Follow}
-use Rattle.m386_step.specs.Steps.{Steps}
+use Rattle.m386_step.specs.Steps.{Plan, requested, planned}
 use Rattle.m386_step.proofs.Short.{short_step, sound_step}
-use Rattle.m386_step.proofs.StepLists.{steps_more}
-use Rattle.m386_core.specs.Seat.{Waits}
+use Rattle.m386_core.specs.Unfinished.{StepsLeaving, Waits}
+use Rattle.m386_core.proofs.Places.{leaving_more}
 
 -- the judgement that a probe tells
 abbrev pub judged : Probe → Judgement Proc
@@ -50,32 +50,36 @@ probe_judges p ts vs r told count exact probed = go (Follow p ts) refl exact
 -- ---- steps that make no cycle
 
 -- a step that needs no value makes no cycle, and is one more whole step
-pub settles_on : (k : ℕ) (s p after : Proc) (used : ℕ) (ts : List Ask) → p.mode ≢ Shutdown → Probes (replay (step_phrase p) []) (probes.Whole after used) → Steps k [] 0 s ts p → Steps (k + 1) [] 0 s ts after
-settles_on k s p after used ts lives probed h =
-    let f : Follow p [] ≡ Whole after [] = probe_judges p [] [] (probes.Whole after used) tt refl (exact_none (step_phrase p)) probed in
-    rw (add-one k) (rw append-nil at (steps_more k 0 s p after ts [] h lives f))
+pub settles_on : (k : ℕ) (q : Plan) (s p begun after : Proc) (used : ℕ) (ts : List Ask) (left behind : Plan) → p.mode ≢ Shutdown → begun ≡ requested left k p → behind ≡ planned left k p → Probes (replay (step_phrase begun) []) (probes.Whole after used) → StepsLeaving k q 0 s ts p left → StepsLeaving (k + 1) q 0 s ts after behind
+settles_on k q s p begun after used ts left behind lives begun_is behind_is probed h =
+    let f : Follow begun [] ≡ Whole after [] = probe_judges begun [] [] (probes.Whole after used) tt refl (exact_none (step_phrase begun)) probed in
+    let g : Follow (requested left k p) [] ≡ Whole after [] = rw begun_is at f in
+    rw behind_is (rw append-nil at (leaving_more k q s p after ts [] left h lives g))
 
 -- a step that asks for its first cycle
-pub settles_at : (n : ℕ) (s : Proc) (ts : List Ask) (e : ProcEnd Proc) (a : Ask) → e.steps < n → e.after.mode ≢ Shutdown → Probes (replay (step_phrase e.after) []) (probes.Wants a) → IsAsk a → Steps e.steps [] 0 s ts e.after → Waits n s ts e [] a
-settles_at n s ts e a fewer lives probed lawful h = record {
-  whole = ts;
-  front = [];
-  cycles = sym (append-nil ts);
-  steps = h;
-  fewer = fewer;
-  lives = lives;
-  wants = probe_judges e.after [] [] (probes.Wants a) tt refl (exact_none (step_phrase e.after)) probed;
-  told = tt;
-  count = refl;
-  lawful = lawful;
-}
+pub settles_at : (n : ℕ) (q : Plan) (s begun : Proc) (ts : List Ask) (e : ProcEnd Proc) (left : Plan) (a : Ask) → e.steps < n → e.after.mode ≢ Shutdown → begun ≡ requested left e.steps e.after → Probes (replay (step_phrase begun) []) (probes.Wants a) → IsAsk a → StepsLeaving e.steps q 0 s ts e.after left → Waits n q s ts e [] left a
+settles_at n q s begun ts e left a fewer lives begun_is probed lawful h =
+    let f : Follow begun [] ≡ Wants a = probe_judges begun [] [] (probes.Wants a) tt refl (exact_none (step_phrase begun)) probed in
+    record {
+      whole = ts;
+      front = [];
+      cycles = sym (append-nil ts);
+      steps = h;
+      fewer = fewer;
+      lives = lives;
+      wants = rw begun_is at f;
+      told = tt;
+      count = refl;
+      lawful = lawful;
+    }
 
 -- ---- one more cycle
 
 -- a processor amid a step has made fewer than 192 cycles of it
-pub few_answers : (n : ℕ) (s : Proc) (ts : List Ask) (e : ProcEnd Proc) (answers : List ℕ) (a : Ask) → Waits n s ts e answers a → length answers < 192
-few_answers n s ts e answers a w =
-    let l : length w.front < 192 = at_most_wants 192 (step_phrase e.after) a w.front (short_step e.after) w.wants in
+pub few_answers : (n : ℕ) (q : Plan) (s : Proc) (ts : List Ask) (e : ProcEnd Proc) (answers : List ℕ) (left : Plan) (a : Ask) → Waits n q s ts e answers left a → length answers < 192
+few_answers n q s ts e answers left a w =
+    let begun : Proc = requested left e.steps e.after in
+    let l : length w.front < 192 = at_most_wants 192 (step_phrase begun) a w.front (short_step begun) w.wants in
     omega (arith, w.count)
 
 told_more : (ts : List Ask) (vs : List ℕ) (t : Ask) (v : ℕ) → AreTold ts vs → length ts ≡ length vs → answer_of t ≡ answer_told t v → AreTold (ts ++ t ∷ []) (vs ++ v ∷ [])
@@ -98,18 +102,21 @@ pub record Hears (p : Proc) (front : List Ask) (answers : List ℕ) (r : Probe) 
   pub count : length front ≡ length answers
   pub judged_so : Follow p front ≡ judged r
 
-hears : (n : ℕ) (s : Proc) (ts : List Ask) (e : ProcEnd Proc) (answers : List ℕ) (a : Ask) (v : ℕ) (r : Probe) (w : Waits n s ts e answers a) → IsEnabled a.enables v → (a.write ≡ true → v ≡ 0) → Probes (replay (step_phrase e.after) (answers ++ v ∷ [])) r → Hears e.after (w.front ++ cycle_of a v ∷ []) (answers ++ v ∷ []) r
-hears n s ts e answers a v r w enabled none probed =
+hears : (n : ℕ) (q : Plan) (s begun : Proc) (ts : List Ask) (e : ProcEnd Proc) (answers : List ℕ) (left : Plan) (a : Ask) (v : ℕ) (r : Probe) (w : Waits n q s ts e answers left a) → begun ≡ requested left e.steps e.after → IsEnabled a.enables v → (a.write ≡ true → v ≡ 0) → Probes (replay (step_phrase begun) (answers ++ v ∷ [])) r → Hears (requested left e.steps e.after) (w.front ++ cycle_of a v ∷ []) (answers ++ v ∷ []) r
+hears n q s begun ts e answers left a v r w begun_is enabled none probed =
+    let p : Proc = requested left e.steps e.after in
     let x = cycle_of a v in
     let told : AreTold (w.front ++ x ∷ []) (answers ++ v ∷ []) = told_more w.front answers x v w.told w.count (answer_told-cycle_of a v v (answer_masked a v enabled none)) in
     let count : length (w.front ++ x ∷ []) ≡ length (answers ++ v ∷ []) = omega (arith, length-append w.front (x ∷ []), length-append answers (v ∷ []), w.count) in
-    let exact = exact_more (step_phrase e.after) a x w.front w.wants (matches-cycle_of a v enabled) in
-    record { told = told; count = count; judged_so = probe_judges e.after (w.front ++ x ∷ []) (answers ++ v ∷ []) r told count exact probed }
+    let exact = exact_more (step_phrase p) a x w.front w.wants (matches-cycle_of a v enabled) in
+    let probed_so : Probes (replay (step_phrase p) (answers ++ v ∷ [])) r = rw begun_is at probed in
+    record { told = told; count = count; judged_so = probe_judges p (w.front ++ x ∷ []) (answers ++ v ∷ []) r told count exact probed_so }
 
 -- the step asks for a further cycle
-pub hears_more : (n : ℕ) (s : Proc) (ts : List Ask) (e : ProcEnd Proc) (answers : List ℕ) (a b : Ask) (v : ℕ) → Waits n s ts e answers a → IsEnabled a.enables v → (a.write ≡ true → v ≡ 0) → Probes (replay (step_phrase e.after) (answers ++ v ∷ [])) (probes.Wants b) → IsAsk b → Waits n s (ts ++ cycle_of a v ∷ []) e (answers ++ v ∷ []) b
-hears_more n s ts e answers a b v w enabled none probed lawful =
-    let h = hears n s ts e answers a v (probes.Wants b) w enabled none probed in
+pub hears_more : (n : ℕ) (q : Plan) (s begun : Proc) (ts : List Ask) (e : ProcEnd Proc) (answers : List ℕ) (left : Plan) (a b : Ask) (v : ℕ) → Waits n q s ts e answers left a → begun ≡ requested left e.steps e.after → IsEnabled a.enables v → (a.write ≡ true → v ≡ 0) → Probes (replay (step_phrase begun) (answers ++ v ∷ [])) (probes.Wants b) → IsAsk b
+    → Waits n q s (ts ++ cycle_of a v ∷ []) e (answers ++ v ∷ []) left b
+hears_more n q s begun ts e answers left a b v w begun_is enabled none probed lawful =
+    let h = hears n q s begun ts e answers left a v (probes.Wants b) w begun_is enabled none probed in
     record {
       whole = w.whole;
       front = w.front ++ cycle_of a v ∷ [];
@@ -124,8 +131,9 @@ hears_more n s ts e answers a b v w enabled none probed lawful =
     }
 
 -- the step is whole
-pub hears_end : (n : ℕ) (s : Proc) (ts : List Ask) (e : ProcEnd Proc) (answers : List ℕ) (a : Ask) (v : ℕ) (after : Proc) (used : ℕ) → Waits n s ts e answers a → IsEnabled a.enables v → (a.write ≡ true → v ≡ 0) → Probes (replay (step_phrase e.after) (answers ++ v ∷ [])) (probes.Whole after used) → Steps (e.steps + 1) [] 0 s (ts ++ cycle_of a v ∷ []) after
-hears_end n s ts e answers a v after used w enabled none probed =
-    let h = hears n s ts e answers a v (probes.Whole after used) w enabled none probed in
+pub hears_end : (n : ℕ) (q : Plan) (s begun : Proc) (ts : List Ask) (e : ProcEnd Proc) (answers : List ℕ) (left behind : Plan) (a : Ask) (v : ℕ) (after : Proc) (used : ℕ) → Waits n q s ts e answers left a → begun ≡ requested left e.steps e.after → behind ≡ planned left e.steps e.after → IsEnabled a.enables v → (a.write ≡ true → v ≡ 0) → Probes (replay (step_phrase begun) (answers ++ v ∷ [])) (probes.Whole after used)
+    → StepsLeaving (e.steps + 1) q 0 s (ts ++ cycle_of a v ∷ []) after behind
+hears_end n q s begun ts e answers left behind a v after used w begun_is behind_is enabled none probed =
+    let h = hears n q s begun ts e answers left a v (probes.Whole after used) w begun_is enabled none probed in
     let cycles : ts ++ cycle_of a v ∷ [] ≡ w.whole ++ (w.front ++ cycle_of a v ∷ []) = ap (λ c. c ++ cycle_of a v ∷ []) w.cycles ∙ append_assoc w.whole w.front (cycle_of a v ∷ []) in
-    rw (add-one e.steps, cycles) (steps_more e.steps 0 s e.after after w.whole (w.front ++ cycle_of a v ∷ []) w.steps w.lives h.judged_so)
+    rw (behind_is, cycles) (leaving_more e.steps q s e.after after w.whole (w.front ++ cycle_of a v ∷ []) left w.steps w.lives h.judged_so)
