@@ -9,7 +9,7 @@ use Rattle.m386_image.specs.declared.fault.ImageFault.{ImageFault}
 use Rattle.m386_image.specs.declared.fault.ImageFault.TheVariants.{ShortHeader, Magic, Version, MemorySize, Processors, Flags, Truncated, PlanOrder, Trailing}
 use Rattle.m386_image.specs.declared.fault.ImageFault.TheVariants as faults
 use Rattle.m386_image.specs.declared.image.Image.{Image as ImageData}
-use Rattle.m386.specs.Top.{Edges, IsAnswer, IsReport, OrMemory, WasRead, most_bytes, refusal}
+use Rattle.m386.specs.Top.{Edges, IsAnswer, IsReport, OrMemory, SourceGave, most_bytes, refusal}
 use Rattle.m386.specs.Words.{words_mean}
 use Rattle.m386.specs.declared.words.Asked.{Asked}
 use Rattle.m386.specs.declared.status.UsageKind.{UsageKind}
@@ -46,7 +46,7 @@ gave_front old (Some rest) bytes told g e =
     (rest, t, refl)
 
 -- all of them, where it was read to its end
-gave_all : (old new : Edges) (bytes told : List ℕ) → WasRead old new bytes → old.left ≡ Some told → bytes ≡ told
+gave_all : (old new : Edges) (bytes told : List ℕ) → SourceGave old new bytes → old.left ≡ Some told → bytes ≡ told
 gave_all old new bytes told g e =
     let f = gave_front old.left new.left bytes told g.gave e in
     let empty : f.0 ≡ [] = rw f.2 at g.emptied in
@@ -90,7 +90,7 @@ not_faulty : {A : Type 0} (bytes : List ℕ) (image : ImageData) (fault : ImageF
 not_faulty bytes image fault i f = absurd (image_no_fault bytes image i fault f.stands)
 
 -- what was read and asked for is what was told and meant
-met : (words : List (List ℕ)) (old new : Edges) (a b : Asked) (bytes told : List ℕ) (i j : ImageData) → words_mean words ≡ Ok a → words_mean words ≡ Ok b → WasRead old new bytes → old.left ≡ Some told → ImageOf bytes i → ImageOf told j → refusal i a ≡ refusal j b
+met : (words : List (List ℕ)) (old new : Edges) (a b : Asked) (bytes told : List ℕ) (i j : ImageData) → words_mean words ≡ Ok a → words_mean words ≡ Ok b → SourceGave old new bytes → old.left ≡ Some told → ImageOf bytes i → ImageOf told j → refusal i a ≡ refusal j b
 met words old new a b bytes told i j x y r l m n =
     let same : bytes ≡ told = gave_all old new bytes told r l in
     let one : i ≡ j = image_same told i j (rw same at m) n in
@@ -156,7 +156,7 @@ answer_image words old new TooLong h asked bytes fault w l short f r =
     absurd (omega (arith, gave_short old.left new.left h.1.0 bytes h.1.2 l, h.1.1))
 
 -- what was read isn't too long
-not_long : {A : Type 0} (old new : Edges) (bytes told : List ℕ) → WasRead old new bytes → old.left ≡ Some told → most_bytes < length told → A
+not_long : {A : Type 0} (old new : Edges) (bytes told : List ℕ) → SourceGave old new bytes → old.left ≡ Some told → most_bytes < length told → A
 not_long old new bytes told g l long = absurd (omega (arith, g.within, ap length (gave_all old new bytes told g l), long))
 
 pub answer_too_long : (words : List (List ℕ)) (old new : Edges) (status : Status) → IsAnswer words old new status → (asked : Asked) (bytes : List ℕ) → words_mean words ≡ Ok asked → old.left ≡ Some bytes → most_bytes < length bytes → ¬ Rose old.reads_failed new.reads_failed → OrMemory status TooLong

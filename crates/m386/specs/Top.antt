@@ -63,7 +63,7 @@ abbrev pub at_out : Option (List ℕ) → ℕ → Edges
 at_out held writes_failed = at_edges None 0 held writes_failed
 
 -- the verdict on a history: its first failure where the image can have no task, else none
-pub record IsJudged (image : ImageRecord) (history : List Cycle) (verdict : Option Verdict) : Type 0 where
+pub record HasVerdict (image : ImageRecord) (history : List Cycle) (verdict : Option Verdict) : Type 0 where
   pub judged : IsSome verdict ↔ (image.gdt.limit < 15)
   pub first : IfSome verdict (IsFirstFailure image history)
 
@@ -80,11 +80,11 @@ pub record IsRunText (image : ImageRecord) (asked : Asked) (text : List ℕ) : T
   pub ends : List (ProcEnd Proc)
   pub run : IsRunOf image asked history ends
   pub verdict : Option Verdict
-  pub is_judged : IsJudged image history verdict
+  pub is_judged : HasVerdict image history verdict
   pub text_is : text ≡ report_text image history ends verdict
 
 -- the source was read to its end, and gave these bytes
-pub record WasRead (old new : Edges) (bytes : List ℕ) : Type 0 where
+pub record SourceGave (old new : Edges) (bytes : List ℕ) : Type 0 where
   pub within : length bytes ≤ most_bytes
   pub gave : Gave old.left new.left bytes
   pub emptied : IsEmptied new.left
@@ -94,7 +94,7 @@ pub record IsReport (words : List (List ℕ)) (old new : Edges) (text : List ℕ
   pub asked : Asked
   pub words_mean_it : words_mean words ≡ Ok asked
   pub bytes : List ℕ
-  pub was_read : WasRead old new bytes
+  pub was_read : SourceGave old new bytes
   pub image : ImageRecord
   pub is_image : ImageOf bytes image
   pub run_text : IsRunText image asked text
@@ -104,11 +104,11 @@ abbrev pub AskToRun : List (List ℕ) → Type 0
 AskToRun words = (asked : Asked) × (words_mean words ≡ Ok asked)
 
 -- The words ask for a run that the image in the source refuses.
-pub record IsRefused (words : List (List ℕ)) (old new : Edges) (kind : UsageKind) : Type 0 where
+pub record ImageRefuses (words : List (List ℕ)) (old new : Edges) (kind : UsageKind) : Type 0 where
   pub asked : Asked
   pub words_mean_it : words_mean words ≡ Ok asked
   pub bytes : List ℕ
-  pub was_read : WasRead old new bytes
+  pub was_read : SourceGave old new bytes
   pub image : ImageRecord
   pub is_image : ImageOf bytes image
   pub refused : refusal image asked ≡ Some kind
@@ -122,26 +122,26 @@ IsUntouched old new = new.held ≡ old.held
 abbrev pub IsAnswer : List (List ℕ) → Edges → Edges → Status → Type 0
 IsAnswer words old new Done = (text : List ℕ) × IsReport words old new text × Grows old.held new.held text
 IsAnswer words old new Memory = IsUntouched old new
-IsAnswer words old new (Usage kind) = (((words_mean words ≡ Err kind) × (new.left ≡ old.left)) ⊎ IsRefused words old new kind) × IsUntouched old new
+IsAnswer words old new (Usage kind) = (((words_mean words ≡ Err kind) × (new.left ≡ old.left)) ⊎ ImageRefuses words old new kind) × IsUntouched old new
 IsAnswer words old new ReadFault = AskToRun words × Rose old.reads_failed new.reads_failed × IsUntouched old new
 IsAnswer words old new WriteFault = (text : List ℕ) × IsReport words old new text × GrowsByFront old.held new.held text × Rose old.writes_failed new.writes_failed
-IsAnswer words old new (Image fault) = AskToRun words × ((bytes : List ℕ) × WasRead old new bytes × FirstFault bytes fault) × IsUntouched old new
+IsAnswer words old new (Image fault) = AskToRun words × ((bytes : List ℕ) × SourceGave old new bytes × FirstFault bytes fault) × IsUntouched old new
 IsAnswer words old new TooLong = AskToRun words × ((bytes : List ℕ) × (length bytes ≡ most_bytes + 1) × Gave old.left new.left bytes) × IsUntouched old new
 
 -- out took a text, or a front of it where a write failed
-abbrev pub Takes : Edges → Edges → List ℕ → Status → Type 0
-Takes old new text Done = Grows old.held new.held text
-Takes old new text WriteFault = GrowsByFront old.held new.held text × Rose old.writes_failed new.writes_failed
-Takes old new text Memory = ⊥
-Takes old new text (Usage kind) = ⊥
-Takes old new text ReadFault = ⊥
-Takes old new text (Image fault) = ⊥
-Takes old new text TooLong = ⊥
+abbrev pub OutTakes : Edges → Edges → List ℕ → Status → Type 0
+OutTakes old new text Done = Grows old.held new.held text
+OutTakes old new text WriteFault = GrowsByFront old.held new.held text × Rose old.writes_failed new.writes_failed
+OutTakes old new text Memory = ⊥
+OutTakes old new text (Usage kind) = ⊥
+OutTakes old new text ReadFault = ⊥
+OutTakes old new text (Image fault) = ⊥
+OutTakes old new text TooLong = ⊥
 
 -- what an image leads to that is asked to run so
 abbrev pub IsAnswerOf : ImageRecord → Asked → Edges → Edges → Status → Type 0
-IsAnswerOf image asked old new Done = (text : List ℕ) × IsRunText image asked text × Takes old new text Done
-IsAnswerOf image asked old new WriteFault = (text : List ℕ) × IsRunText image asked text × Takes old new text WriteFault
+IsAnswerOf image asked old new Done = (text : List ℕ) × IsRunText image asked text × OutTakes old new text Done
+IsAnswerOf image asked old new WriteFault = (text : List ℕ) × IsRunText image asked text × OutTakes old new text WriteFault
 IsAnswerOf image asked old new Memory = IsUntouched old new
 IsAnswerOf image asked old new (Usage kind) = (refusal image asked ≡ Some kind) × IsUntouched old new
 IsAnswerOf image asked old new (Image fault) = ⊥

@@ -13,14 +13,14 @@ use Rattle.m386.specs.declared.status.UsageKind.TheVariants.{Command, Line, Valu
 -- ---- numbers
 
 -- the number of decimal digits, read from the left after a number so far
-abbrev pub read_on : ℕ → List ℕ → ℕ
-read_on n [] = n
-read_on n (c ∷ cs) = read_on (n * 10 + (c - 48)) cs
+abbrev pub digits_on : ℕ → List ℕ → ℕ
+digits_on n [] = n
+digits_on n (c ∷ cs) = digits_on (n * 10 + (c - 48)) cs
 
 -- A number in its limit: 1 to 20 decimal digits with no sign.
 -- Own choice: docs/DECISIONS.md, "The words of a call"
 abbrev pub number_in : ℕ → List ℕ → Option ℕ
-number_in most text = if nat_le 1 (length text) && nat_le (length text) 20 && all_ascii_digits text && nat_le (read_on 0 text) most then Some (read_on 0 text) else None
+number_in most text = if nat_le 1 (length text) && nat_le (length text) 20 && all_ascii_digits text && nat_le (digits_on 0 text) most then Some (digits_on 0 text) else None
 
 -- ---- options
 

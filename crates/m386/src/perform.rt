@@ -3,7 +3,7 @@ ghost use Rattle.std.specs.Prelude.{◌≡◌, ◌↔◌, ◌<◌, ◌≤◌, �
 ghost use Rattle.m386_image.specs.Format.{IsValid};
 ghost use Rattle.m386_book.specs.declared.verdict.Verdict.{Verdict as VerdictData};
 ghost use Rattle.m386_trace.specs.Report.{report_text};
-ghost use Rattle.m386.specs.Top.{IsAnswer, IsAnswerOf, IsAnswerTo, IsJudged, Takes, at_edges, at_out, count_of, excess};
+ghost use Rattle.m386.specs.Top.{IsAnswer, IsAnswerOf, IsAnswerTo, HasVerdict, OutTakes, at_edges, at_out, count_of, excess};
 ghost use Rattle.m386.specs.Words.{texts, IsAsked};
 
 use crate::run::run_image;
@@ -55,8 +55,8 @@ fn excess_of(has: u8, count: u8, steps: u32) -> Option<UsageKind>
 fn write_run<K: Sink>(image: &Image, ended: &Ended<Proc>, out: &mut K) -> Status
     requires cpus { All (λ c. c.cpu < 8) ended.now.log.cycles }
     requires few { length ended.now.procs ≤ 8 }
-    ensures { (verdict : Option VerdictData) × IsJudged image.now ended.now.log.cycles verdict
-        × Takes (at_out (K.held out.old) (K.faults out.old)) (at_out (K.held out.new) (K.faults out.new))
+    ensures { (verdict : Option VerdictData) × HasVerdict image.now ended.now.log.cycles verdict
+        × OutTakes (at_out (K.held out.old) (K.faults out.old)) (at_out (K.held out.new) (K.faults out.new))
         (report_text image.now ended.now.log.cycles ended.now.procs verdict) result }
 {
     let verdict = plain_verdict(image, ended.log.cycles());

@@ -38,8 +38,8 @@ shl_after n (suc k) a c z p h =
     rw (shl_value n k a c h, one_more_shift a k, e, t) refl
 
 -- a pair by its parts
-pub pair_of : (p : ℕ × ℕ) (a b : ℕ) → p.0 ≡ a → p.1 ≡ b → p ≡ (a, b)
-pair_of p a b e f = rw (← e, ← f) refl
+pub pair_from : (p : ℕ × ℕ) (a b : ℕ) → p.0 ≡ a → p.1 ≡ b → p ≡ (a, b)
+pair_from p a b e f = rw (← e, ← f) refl
 
 pub half_more : (a k : ℕ) → a / 2 ^ k / 2 ≡ a / 2 ^ suc k
 half_more a k =
@@ -59,7 +59,7 @@ pub shr_after : (n k a c : ℕ) → 0 < k → ◌≡◌ {A = ℕ × ℕ} (shifte
 shr_after n zero a c h = absurd (omega arith)
 shr_after n (suc k) a c h =
     let e : suc k - 1 ≡ k = omega arith in
-    rw (e) (pair_of _ _ _ (shr_value n (suc k) a c) (shr_out n k a c))
+    rw (e) (pair_from _ _ _ (shr_value n (suc k) a c) (shr_out n k a c))
 
 -- SAR of a number whose sign is 0 is SHR
 pub sar_low : (n k a c : ℕ) → a < 2 ^ (n - 1) → shifted Sar n k (a, c) ≡ shifted Shr n k (a, c)
@@ -106,4 +106,4 @@ pub sar_high : (n k a c : ℕ) → 0 < k → 0 < n → 2 ^ (n - 1) ≤ a → a <
 sar_high n zero a c z p h l = absurd (omega arith)
 sar_high n (suc k) a c z p h l =
     let e : suc k - 1 ≡ k = omega arith in
-    rw e (pair_of _ _ _ (sar_high_value n (suc k) a c p h l) (sar_out n k a c p h l))
+    rw e (pair_from _ _ _ (sar_high_value n (suc k) a c p h l) (sar_out n k a c p h l))

@@ -7,7 +7,7 @@ use Rattle.m386_alu.specs.declared.shifts.ShiftOp.TheVariants.{Rol, Ror, Rcl, Rc
 use Rattle.m386_alu.specs.Shifts.{times, shifted}
 use Rattle.m386_alu.specs.Turns.{turn_left_once, turn_right_once, turned_left, turned_right}
 use Rattle.m386_alu.proofs.Readings.{two_halves, mod_once}
-use Rattle.m386_alu.proofs.Moves.{pair_of, top_is_one}
+use Rattle.m386_alu.proofs.Moves.{pair_from, top_is_one}
 use Rattle.m386_alu.proofs.Turning.{left_all_fits, right_fits}
 
 pub rol_value : (n k a c : ℕ) → (shifted Rol n k (a, c)).0 ≡ turned_left n k a
@@ -39,7 +39,7 @@ rol_out n k a c p h = rw (rol_value n k a c) (low_after n (turned_left n k a) p 
 pub rol_after : (n k a c : ℕ) → 0 < k → 0 < n → a < 2 ^ n
     → ◌≡◌ {A = ℕ × ℕ} (shifted Rol n k (a, c)) (turned_left n k a, turned_left n k a % 2)
 rol_after n zero a c z p h = absurd (omega arith)
-rol_after n (suc k) a c z p h = pair_of _ _ _ (rol_value n (suc k) a c) (rol_out n k a c p h)
+rol_after n (suc k) a c z p h = pair_from _ _ _ (rol_value n (suc k) a c) (rol_out n k a c p h)
 
 pub ror_value : (n k a c : ℕ) → (shifted Ror n k (a, c)).0 ≡ turned_right n k a
 unfolding times turn_right_once
@@ -70,7 +70,7 @@ ror_out n k a c p h = rw (ror_value n k a c) (top_after n (turned_right n k a) p
 pub ror_after : (n k a c : ℕ) → 0 < k → 0 < n → a < 2 ^ n
     → ◌≡◌ {A = ℕ × ℕ} (shifted Ror n k (a, c)) (turned_right n k a, turned_right n k a / 2 ^ (n - 1))
 ror_after n zero a c z p h = absurd (omega arith)
-ror_after n (suc k) a c z p h = pair_of _ _ _ (ror_value n (suc k) a c) (ror_out n k a c p h)
+ror_after n (suc k) a c z p h = pair_from _ _ _ (ror_value n (suc k) a c) (ror_out n k a c p h)
 
 -- a number and a carry that together are the number j of one bit more
 pub record AreJoined (n j : ℕ) (p : ℕ × ℕ) : Type 0 where
@@ -153,7 +153,7 @@ parted n j p r =
     let m : (p.1 * 2 ^ n + p.0) % 2 ^ n ≡ p.0 = mod_low p.1 n p.0 r.number in
     let d : (p.1 * 2 ^ n + p.0) / 2 ^ n ≡ p.1 = shr_high p.1 n p.0 r.number in
     let e = r.joined in
-    pair_of p _ _ (rw e at (sym m)) (rw e at (sym d))
+    pair_from p _ _ (rw e at (sym m)) (rw e at (sym d))
 
 pub rcl_after : (n k a c : ℕ) → 0 < n → a < 2 ^ n → c < 2
     → ◌≡◌ {A = ℕ × ℕ} (shifted Rcl n k (a, c)) (turned_left (n + 1) k (c * 2 ^ n + a) % 2 ^ n, turned_left (n + 1) k (c * 2 ^ n + a) / 2 ^ n)

@@ -6,10 +6,10 @@ use Rattle.m386_base.specs.Bytes.{bytes_of}
 use Rattle.m386_image.specs.declared.image.TableAt.{TableAt}
 
 -- a place among the bytes of a table, from its base to its base and limit
-abbrev pub is_in_table : TableAt → ℕ → Bool
-is_in_table table place = nat_le table.base place && nat_le place (table.base + table.limit)
+abbrev pub is_of_table : TableAt → ℕ → Bool
+is_of_table table place = nat_le table.base place && nat_le place (table.base + table.limit)
 
 -- Some byte of a cycle lies in a table.
 -- Own choice: docs/DECISIONS.md, "The verdict"
 unfoldable pub touches : TableAt → Ask → Bool
-touches table a = list_any (λ b. is_in_table table b.0) (bytes_of a)
+touches table a = list_any (λ b. is_of_table table b.0) (bytes_of a)

@@ -1,14 +1,14 @@
 //! The bytes of a cycle that stand in a table.
 ghost use Rattle.std.specs.Prelude.{◌≡◌, ◌+◌, ◌≤◌};
-ghost use Rattle.m386_book.specs.Bytes.{is_in_table, touches};
+ghost use Rattle.m386_book.specs.Bytes.{is_of_table, touches};
 
 use m386_base::ask::Ask;
 use m386_base::bytes::bytes_of;
 use m386_image::image::TableAt;
 
 /// Whether a place is one of a table's bytes.
-fn is_in_table(table: TableAt, place: u64) -> bool
-    ensures { result ≡ is_in_table table place }
+fn is_of_table(table: TableAt, place: u64) -> bool
+    ensures { result ≡ is_of_table table place }
 {
     let base = u64::from(table.base);
     base <= place && place <= base + u64::from(table.limit)
@@ -22,5 +22,5 @@ pub(crate) fn touches(table: TableAt, ask: &Ask) -> bool
     bytes_of(ask)
         .as_slice()
         .iter()
-        .any(|byte| is_in_table(table, byte.0))
+        .any(|byte| is_of_table(table, byte.0))
 }

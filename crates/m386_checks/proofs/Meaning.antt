@@ -6,13 +6,13 @@ use Rattle.m386_checks.specs.declared.facts.Context.{Context}
 use Rattle.m386_checks.specs.declared.facts.Context.TheVariants.{Old, New}
 use Rattle.m386_checks.specs.declared.facts.Fail.{Fail}
 use Rattle.m386_checks.specs.declared.facts.Facts.{Facts}
-use Rattle.m386_checks.specs.declared.table.Row.{Row}
+use Rattle.m386_checks.specs.declared.table.Check.{Check}
 use Rattle.m386_checks.specs.First.{first_false, first_fail_of, old_fail_of, for_segment, for_segments, data_segments, in_order, AllHold, AllChecksHold, context_of}
 use Rattle.m386_checks.specs.Holds.{test_holds}
 use Rattle.m386_checks.specs.Table.{check_table, fail_of}
 use Rattle.m386_checks.proofs.Order.{first_now, first_later}
 
-none-all_hold : (f : Facts) (checks : List (Row × ℕ)) → first_false f checks ≡ None → AllHold f checks
+none-all_hold : (f : Facts) (checks : List (Check × ℕ)) → first_false f checks ≡ None → AllHold f checks
 unfolding first_false AllHold
 none-all_hold f [] h = tt
 none-all_hold f (check ∷ rest) h = go (none-all_hold f rest) (test_holds check.0.test f check.1) h
@@ -21,7 +21,7 @@ none-all_hold f (check ∷ rest) h = go (none-all_hold f rest) (test_holds check
     go among true e = (refl, among e)
     go among false e = cc
 
-all_hold-none : (f : Facts) (checks : List (Row × ℕ)) → AllHold f checks → first_false f checks ≡ None
+all_hold-none : (f : Facts) (checks : List (Check × ℕ)) → AllHold f checks → first_false f checks ≡ None
 unfolding first_false AllHold
 all_hold-none f [] h = refl
 all_hold-none f (check ∷ rest) h = rw h.0 (all_hold-none f rest h.1)
@@ -38,7 +38,7 @@ context-old New true h = cc
 context-old New false h = refl
 
 -- a row's number tells the task
-tells : Row × ℕ → Bool
+tells : Check × ℕ → Bool
 tells check = agree (is_old check.0.context) (nat_le check.0.number 7)
 
 and-left : (a b : Bool) → a && b ≡ true → a ≡ true
@@ -50,7 +50,7 @@ and-right true b h = h
 and-right false true h = refl
 and-right false false h = h
 
-context-first : (f : Facts) (checks : List (Row × ℕ)) (x : Fail) → list_all tells checks ≡ true → first_false f checks ≡ Some x → x.context ≡ context_of x.row
+context-first : (f : Facts) (checks : List (Check × ℕ)) (x : Fail) → list_all tells checks ≡ true → first_false f checks ≡ Some x → x.context ≡ context_of x.row
 unfolding first_false tells
 context-first f [] x all h = cc
 context-first f (check ∷ rest) x all h =
@@ -60,7 +60,7 @@ context-first f (check ∷ rest) x all h =
     go among here true e = among e
     go among here false e = let same : fail_of f check.0 check.1 ≡ x = cc in rw (← same) here
 
-is_new : Row × ℕ → Bool
+is_new : Check × ℕ → Bool
 is_new check = not (is_old check.0.context)
 
 new-context : (c : Context) → not (is_old c) ≡ true → c ≡ New
@@ -68,7 +68,7 @@ unfolding is_old
 new-context Old h = cc
 new-context New h = refl
 
-new-first : (f : Facts) (checks : List (Row × ℕ)) (x : Fail) → list_all is_new checks ≡ true → first_false f checks ≡ Some x → x.context ≡ New
+new-first : (f : Facts) (checks : List (Check × ℕ)) (x : Fail) → list_all is_new checks ≡ true → first_false f checks ≡ Some x → x.context ≡ New
 unfolding first_false is_new
 new-first f [] x all h = cc
 new-first f (check ∷ rest) x all h =
@@ -79,10 +79,10 @@ new-first f (check ∷ rest) x all h =
     go among here false e = let same : fail_of f check.0 check.1 ≡ x = cc in rw (← same) here
 
 -- the checks that are made in the old task, and those that are made in the new one
-abbrev old_checks : List (Row × ℕ)
+abbrev old_checks : List (Check × ℕ)
 old_checks = for_segment 0 (slice_range check_table 0 7)
 
-abbrev new_checks : List (Row × ℕ)
+abbrev new_checks : List (Check × ℕ)
 new_checks =
     for_segment 0 (slice_range check_table 7 15)
     ++ (for_segments data_segments (slice_range check_table 15 18) ++ for_segment 0 (slice_range check_table 18 19))

@@ -13,20 +13,20 @@ use Rattle.m386_base.specs.Exceptions.{coded_fault_of}
 use Rattle.m386_base.specs.Segments.{cs, ss}
 use Rattle.m386_checks.specs.declared.table.Raises.{Raises}
 use Rattle.m386_checks.specs.declared.table.Raises.TheVariants as raises
-use Rattle.m386_checks.specs.declared.table.Row.{Row}
+use Rattle.m386_checks.specs.declared.table.Check.{Check}
 use Rattle.m386_checks.specs.declared.table.Subject.{Subject}
 use Rattle.m386_checks.specs.declared.table.Subject.TheVariants as names
 use Rattle.m386_checks.specs.declared.table.Test.{Test}
 use Rattle.m386_checks.specs.declared.table.Test.TheVariants as tests
 use Rattle.m386_checks.specs.Holds.{selector_at}
 
-abbrev pub row : ℕ → Test → Raises → Subject → Context → Row
+abbrev pub row : ℕ → Test → Raises → Subject → Context → Check
 row number test exception subject context =
     record { number = number; test = test; exception = exception; subject = subject; context = context }
 
 -- The rows: number, test, exception, the selector that the error code names, and the task that is told.
 -- Source: Intel 80386 PRM 7.5; the rows: docs/DECISIONS.md, "The check table of a task switch"
-abbrev pub check_table : List Row
+abbrev pub check_table : List Check
 check_table =
     row 1 tests.TrUsable raises.Gp names.Nothing Old
     ∷ row 2 tests.TssInGdt raises.ByKind names.Tss Old
@@ -85,7 +85,7 @@ error_code_of names.Ss f turn = code_of (selector_at f ss) f.ext
 error_code_of names.Data f turn = code_of (selector_at f turn) f.ext
 
 -- how a row fails
-abbrev pub fail_of : Facts → Row → ℕ → Fail
+abbrev pub fail_of : Facts → Check → ℕ → Fail
 fail_of f row turn = record {
   row = row.number;
   seg = seg_of row.subject turn;

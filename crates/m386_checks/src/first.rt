@@ -5,7 +5,7 @@ ghost use Rattle.m386_checks.specs.Table.{exception_of, error_code_of, seg_of, f
 
 use crate::facts::{Facts, Fail, SwitchKind};
 use crate::holds::{holds, selector};
-use crate::table::{ROWS, Raises, Row, Subject};
+use crate::table::{ROWS, Raises, Check, Subject};
 use m386_base::exception::Exception;
 use m386_base::segments::{CS, DS, ES, FS, GS, SS};
 use m386_desc::selector::error_code;
@@ -35,7 +35,7 @@ pub fn old_fail(facts: &Facts) -> Option<Fail>
 
 /// The first of a whole table's checks that fails.
 #[tactic(auto, using(crate::proofs::Order::laid_out))]
-fn first_of_table(rows: &[Row], facts: &Facts) -> Option<Fail>
+fn first_of_table(rows: &[Check], facts: &Facts) -> Option<Fail>
     requires { length rows.now ≡ 19 }
     ensures { result ≡ first_false facts.now (in_order rows.now) }
 {
@@ -50,7 +50,7 @@ fn first_of_table(rows: &[Row], facts: &Facts) -> Option<Fail>
 
 /// The first of these rows that fails, tested for each data segment register in turn.
 #[tactic(auto, using(crate::proofs::Order::turns))]
-fn first_of_data(rows: &[Row], facts: &Facts) -> Option<Fail>
+fn first_of_data(rows: &[Check], facts: &Facts) -> Option<Fail>
     ensures { result ≡ first_false facts.now (for_segments data_segments rows.now) }
 {
     for seg in DATA_SEGMENTS {
@@ -63,7 +63,7 @@ fn first_of_data(rows: &[Row], facts: &Facts) -> Option<Fail>
 
 /// The first of these rows that fails, tested for one segment register.
 #[tactic(auto, using(crate::proofs::Order::row_steps))]
-fn first_of_rows(rows: &[Row], facts: &Facts, seg: u8) -> Option<Fail>
+fn first_of_rows(rows: &[Check], facts: &Facts, seg: u8) -> Option<Fail>
     requires { seg < 6 }
     ensures { result ≡ first_false facts.now (for_segment seg rows.now) }
 {
@@ -76,7 +76,7 @@ fn first_of_rows(rows: &[Row], facts: &Facts, seg: u8) -> Option<Fail>
 }
 
 /// How a row fails.
-fn failed(row: Row, facts: &Facts, seg: u8) -> Fail
+fn failed(row: Check, facts: &Facts, seg: u8) -> Fail
     requires { seg < 6 }
     ensures { result ≡ fail_of facts.now row seg }
 {

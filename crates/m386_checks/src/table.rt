@@ -81,7 +81,7 @@ pub enum Subject {
 
 /// One row of the check table.
 #[derive(Clone, Copy, Debug, PartialEq, Eq)]
-pub struct Row {
+pub struct Check {
     /// Its number, 1 to 19.
     pub number: u8,
     /// What it tests.
@@ -96,7 +96,7 @@ pub struct Row {
 
 macro_rules! rows {
     ($($number:literal $test:ident $exception:ident $subject:ident $context:ident;)*) => {
-        [$(Row {
+        [$(Check {
             number: $number,
             test: Test::$test,
             exception: Raises::$exception,
@@ -107,7 +107,7 @@ macro_rules! rows {
 }
 
 /// The checks of a task switch (PRM 7.5). Rows 16 to 18 are tested for DS, ES, FS and GS in turn.
-pub const ROWS: [Row; 19] = rows![
+pub const ROWS: [Check; 19] = rows![
     1 TrUsable Gp Nothing Old;
     2 TssInGdt ByKind Tss Old;
     3 TssOf386 ByKind Tss Old;

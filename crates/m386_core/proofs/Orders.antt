@@ -9,7 +9,7 @@ use Rattle.m386_image.specs.declared.image.Image.{Image}
 use Rattle.m386_core.specs.declared.order.Order.{Order}
 use Rattle.m386_core.specs.Machine.{MachineView, IsMachine, SameMachine, PassesOver, MakesCycle, GoesOn}
 use Rattle.m386_core.specs.Order.{Naming, Turns, Drawn, beginning, named, passed, followed, NamesTo, StandsAt}
-use Rattle.m386_core.specs.Running.{Stands, Rises, gap}
+use Rattle.m386_core.specs.Running.{OrderAt, Rises, gap}
 use Rattle.m386_core.specs.Place.{IsPassedOver}
 
 pub stands_first : (I : Image) (c n : ℕ) (order : Order) (H : List Cycle) → H ≡ [] → StandsAt I c n order H (beginning c order)
@@ -26,7 +26,7 @@ stands_followed I c n order G x s h lives by = (suc h.0, (s, inr (G, x, refl, li
 
 -- ---- the order of a machine's history
 
-pub stands_made : (order : Order) (cpu : ℕ) (old new : MachineView) (s : Naming) → MakesCycle cpu old new → Stands order old s → (PassesOver old cpu → ⊥) → cpu ≡ named old.cpus s → Stands order new (followed s)
+pub stands_made : (order : Order) (cpu : ℕ) (old new : MachineView) (s : Naming) → MakesCycle cpu old new → OrderAt order old s → (PassesOver old cpu → ⊥) → cpu ≡ named old.cpus s → OrderAt order new (followed s)
 stands_made order cpu old new s m h lives by =
     let x : Cycle = record { cpu = cpu; ask = cycle_of m.asked m.value } in
     let alive : IsPassedOver old.image old.cpus old.budget old.log.cycles (named old.cpus s) → ⊥ = rw by at lives in

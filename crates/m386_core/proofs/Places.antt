@@ -76,11 +76,11 @@ whole_same : (j : Judgement Proc) (mid mid2 : Proc) (rest rest2 : List Ask) → 
 whole_same j mid mid2 rest rest2 e f = record { same_after = cc; same_rest = cc }
 
 -- whole steps of the same cycles end before the state of the unfinished step is left, and not in shutdown
-pub record EndsBefore (k2 k : ℕ) (s3 : Proc) : Type 0 where
+pub record EndsWithin (k2 k : ℕ) (s3 : Proc) : Type 0 where
   pub within : k2 ≤ k
   pub lives : s3.mode ≢ Shutdown
 
-pub amid_steps : (k k2 : ℕ) (q : Plan) (j : ℕ) (s s2 s3 : Proc) (ts : List Ask) (a : Ask) → Amid k q j s ts s2 a → Steps k2 q j s ts s3 → EndsBefore k2 k s3
+pub amid_steps : (k k2 : ℕ) (q : Plan) (j : ℕ) (s s2 s3 : Proc) (ts : List Ask) (a : Ask) → Amid k q j s ts s2 a → Steps k2 q j s ts s3 → EndsWithin k2 k s3
 unfolding Steps Amid
 amid_steps zero zero q j s s2 s3 ts a h g =
     let e : s3 ≡ s = g.1 in

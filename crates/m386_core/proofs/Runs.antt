@@ -17,23 +17,23 @@ use Rattle.m386_core.specs.declared.turn.Turn.TheVariants as turns
 use Rattle.m386_core.specs.declared.order.Order.{Order}
 use Rattle.m386_core.specs.Machine.{MachineView, IsPlaced, IsMachine, PassesOver, MakesCycle, GoesOn}
 use Rattle.m386_core.specs.Order.{Naming, beginning, Turns, Listed, Drawn, listed, passed, followed, draw_of}
-use Rattle.m386_core.specs.Running.{Stands, Rises, IsOver}
+use Rattle.m386_core.specs.Running.{OrderAt, Rises, IsOver}
 use Rattle.m386_core.proofs.Orders.{stands_first, goes_nowhere, goes_then, goes_cycle, turns_rise, drawn_rise, stands_passed, stands_made}
 
 -- what a turn that made a cycle says of an order
 abbrev pub TakesTurn : ℕ → ℕ → MachineView → MachineView → Type 0
-TakesTurn first made old new = (order : Order) (a : ℕ) (f : ℕ → Naming) → first ≡ a % old.cpus → Rises old.cpus a f → Stands order old (f 0) → (i : ℕ) × (made ≡ (a + i) % old.cpus) × Stands order new (followed (f i))
+TakesTurn first made old new = (order : Order) (a : ℕ) (f : ℕ → Naming) → first ≡ a % old.cpus → Rises old.cpus a f → OrderAt order old (f 0) → (i : ℕ) × (made ≡ (a + i) % old.cpus) × OrderAt order new (followed (f i))
 
 -- what one that failed says of it
 abbrev pub LosesTurn : ℕ → MachineView → MachineView → Type 0
-LosesTurn first old new = (order : Order) (a : ℕ) (f : ℕ → Naming) → first ≡ a % old.cpus → Rises old.cpus a f → Stands order old (f 0) → (i : ℕ) × Stands order new (f i)
+LosesTurn first old new = (order : Order) (a : ℕ) (f : ℕ → Naming) → first ≡ a % old.cpus → Rises old.cpus a f → OrderAt order old (f 0) → (i : ℕ) × OrderAt order new (f i)
 
 -- ---- in turn
 
 pub record TurnsRun (old now : MachineView) (number : ℕ) : Type 0 where
   pub goes : GoesOn old now
   pub below : number < old.cpus
-  pub order : (order : Order) → Stands order old (Turns 0) → (n : ℕ) × (number ≡ n % old.cpus) × Stands order now (Turns n)
+  pub order : (order : Order) → OrderAt order old (Turns 0) → (n : ℕ) × (number ≡ n % old.cpus) × OrderAt order now (Turns n)
 
 pub turns_begin : (m : MachineView) → IsMachine m → TurnsRun m m 0
 turns_begin m k = record {
@@ -49,17 +49,17 @@ turns_next old now new number made next t goes turn below follows = record {
   order = λ order s. (
       let so = t.order order s in
       let first : number ≡ so.0 % now.cpus = rw t.goes.same.cpus so.1 in
-      let here : Stands order now (Turns (so.0 + 0)) = rw add-zero so.2 in
+      let here : OrderAt order now (Turns (so.0 + 0)) = rw add-zero so.2 in
       let r = turn order so.0 (λ i. Turns (so.0 + i)) first (turns_rise now.cpus so.0) here in
       let by : made ≡ (so.0 + r.0) % old.cpus = r.1 ∙ ap (λ (c : ℕ). (so.0 + r.0) % c) t.goes.same.cpus in
       (so.0 + r.0 + 1, follows (so.0 + r.0) by, r.2));
 }
 
-pub turns_lost : (old now new : MachineView) (number : ℕ) → TurnsRun old now number → LosesTurn number now new → (order : Order) → Stands order old (Turns 0) → (s : Naming) × Stands order new s
+pub turns_lost : (old now new : MachineView) (number : ℕ) → TurnsRun old now number → LosesTurn number now new → (order : Order) → OrderAt order old (Turns 0) → (s : Naming) × OrderAt order new s
 turns_lost old now new number t lost order s =
     let so = t.order order s in
     let first : number ≡ so.0 % now.cpus = rw t.goes.same.cpus so.1 in
-    let here : Stands order now (Turns (so.0 + 0)) = rw add-zero so.2 in
+    let here : OrderAt order now (Turns (so.0 + 0)) = rw add-zero so.2 in
     let r = lost order so.0 (λ i. Turns (so.0 + i)) first (turns_rise now.cpus so.0) here in
     (Turns (so.0 + r.0), r.1)
 
@@ -67,7 +67,7 @@ turns_lost old now new number t lost order s =
 
 pub record DrawnRun (seed : ℕ) (old now : MachineView) (x : ℕ) : Type 0 where
   pub goes : GoesOn old now
-  pub order : (order : Order) → Stands order old (Drawn (draw_of seed) 0) → Stands order now (Drawn (draw_of x) 0)
+  pub order : (order : Order) → OrderAt order old (Drawn (draw_of seed) 0) → OrderAt order now (Drawn (draw_of x) 0)
 
 pub drawn_begin : (seed : ℕ) (m : MachineView) → IsMachine m → DrawnRun seed m m seed
 drawn_begin seed m k = record { goes = goes_nowhere m k; order = λ order s. s }
@@ -76,13 +76,13 @@ pub drawn_next : (seed : ℕ) (old now new : MachineView) (x y first made : ℕ)
 drawn_next seed old now new x y first made t e first_is goes turn = record {
   goes = goes_then old now new t.goes goes;
   order = λ order s. (
-      let here : Stands order now (Drawn y 0) = rw e (t.order order s) in
+      let here : OrderAt order now (Drawn y 0) = rw e (t.order order s) in
       (turn order (y / 2 ^ 33) (λ i. Drawn y i) first_is (drawn_rise now.cpus y) here).2);
 }
 
-pub drawn_lost : (seed : ℕ) (old now new : MachineView) (x y first : ℕ) → DrawnRun seed old now x → y ≡ draw_of x → first ≡ (y / 2 ^ 33) % now.cpus → LosesTurn first now new → (order : Order) → Stands order old (Drawn (draw_of seed) 0) → (s : Naming) × Stands order new s
+pub drawn_lost : (seed : ℕ) (old now new : MachineView) (x y first : ℕ) → DrawnRun seed old now x → y ≡ draw_of x → first ≡ (y / 2 ^ 33) % now.cpus → LosesTurn first now new → (order : Order) → OrderAt order old (Drawn (draw_of seed) 0) → (s : Naming) × OrderAt order new s
 drawn_lost seed old now new x y first t e first_is lost order s =
-    let here : Stands order now (Drawn y 0) = rw e (t.order order s) in
+    let here : OrderAt order now (Drawn y 0) = rw e (t.order order s) in
     let r = lost order (y / 2 ^ 33) (λ i. Drawn y i) first_is (drawn_rise now.cpus y) here in
     (Drawn y r.0, r.1)
 
@@ -94,7 +94,7 @@ within c members = filter (λ p. ltb p c) members
 
 pub record ListedRun (members : List ℕ) (old now : MachineView) (i : ℕ) : Type 0 where
   pub goes : GoesOn old now
-  pub order : (order : Order) → Stands order old (listed (within old.cpus members)) → Stands order now (listed (within old.cpus (drop i members)))
+  pub order : (order : Order) → OrderAt order old (listed (within old.cpus members)) → OrderAt order now (listed (within old.cpus (drop i members)))
 
 pub listed_begin : (members : List ℕ) (m : MachineView) → IsMachine m → ListedRun members m m 0
 listed_begin members m k = record { goes = goes_nowhere m k; order = λ order s. s }
@@ -111,7 +111,7 @@ listed_skips members old now i lt t le =
     record { goes = t.goes; order = λ order s. rw e at (t.order order s) }
 
 -- the order stands at the next member
-at_member : (members : List ℕ) (old now : MachineView) (i : ℕ) → i < length members → ListedRun members old now i → get_or members i 0 < old.cpus → (order : Order) → Stands order old (listed (within old.cpus members)) → Stands order now (Listed (get_or members i 0) (within old.cpus (drop (i + 1) members)))
+at_member : (members : List ℕ) (old now : MachineView) (i : ℕ) → i < length members → ListedRun members old now i → get_or members i 0 < old.cpus → (order : Order) → OrderAt order old (listed (within old.cpus members)) → OrderAt order now (Listed (get_or members i 0) (within old.cpus (drop (i + 1) members)))
 at_member members old now i lt t below order s =
     let e : listed (within old.cpus (drop i members)) ≡ Listed (get_or members i 0) (within old.cpus (drop (i + 1) members)) = at_drop_more (λ (xs : List ℕ). listed (within old.cpus xs)) members i 0 lt ∙ ap listed (within_one old.cpus (get_or members i 0) (drop (i + 1) members) below) in
     rw e at (t.order order s)
@@ -133,7 +133,7 @@ pub listed_next : (members : List ℕ) (old now new : MachineView) (i : ℕ) (t 
 listed_next members old now new i turns.PassedOver lt l below passed made = listed_passes members old now new i lt l below (passed refl).0 (passed refl).1
 listed_next members old now new i turns.Made lt l below passed made = listed_makes members old now new i lt l below (made refl).0 (made refl).1 (made refl).2
 
-pub listed_all : (members : List ℕ) (old now : MachineView) (i : ℕ) → length members ≤ i → ListedRun members old now i → (order : Order) → Stands order old (listed (within old.cpus members)) → Stands order now (Turns 0)
+pub listed_all : (members : List ℕ) (old now : MachineView) (i : ℕ) → length members ≤ i → ListedRun members old now i → (order : Order) → OrderAt order old (listed (within old.cpus members)) → OrderAt order now (Turns 0)
 listed_all members old now i le t order s =
     let e : listed (within old.cpus (drop i members)) ≡ Turns 0 = ap (λ (xs : List ℕ). listed (within old.cpus xs)) (drop_all i members le) in
     rw e at (t.order order s)
@@ -161,5 +161,5 @@ run_on (Ok u) m k over = over_is_run m k over
 run_on (Err e) m k over = tt
 
 -- an order that stands somewhere after a history
-pub begins_order : (order : Order) (m : MachineView) → m.log.cycles ≡ [] → Stands order m (beginning m.cpus order)
+pub begins_order : (order : Order) (m : MachineView) → m.log.cycles ≡ [] → OrderAt order m (beginning m.cpus order)
 begins_order order m none = stands_first m.image m.cpus m.budget order m.log.cycles none

@@ -7,14 +7,14 @@ use Rattle.m386_core.specs.declared.order.Order.{Order}
 use Rattle.m386_core.specs.Machine.{MachineView, PassesOver, MakesCycle}
 use Rattle.m386_core.specs.Order.{Naming, named, passed, followed}
 use Rattle.m386_core.specs.Place.{IsPassedOver}
-use Rattle.m386_core.specs.Running.{Stands, Rises}
+use Rattle.m386_core.specs.Running.{OrderAt, Rises}
 use Rattle.m386_core.proofs.Orders.{stands_passed, stands_made}
 
 -- how far the naming has come without a cycle
 pub record TurnSoFar (first : ℕ) (old now : MachineView) (number : ℕ) : Type 0 where
   pub unchanged : now ≡ old
   pub below : number < old.cpus
-  pub order : (order : Order) (a : ℕ) (f : ℕ → Naming) → first ≡ a % old.cpus → Rises old.cpus a f → Stands order old (f 0) → (i : ℕ) × (number ≡ (a + i) % old.cpus) × Stands order old (f i)
+  pub order : (order : Order) (a : ℕ) (f : ℕ → Naming) → first ≡ a % old.cpus → Rises old.cpus a f → OrderAt order old (f 0) → (i : ℕ) × (number ≡ (a + i) % old.cpus) × OrderAt order old (f i)
 
 -- one more is passed over
 pub turn_passes : (first : ℕ) (old now new : MachineView) (number next : ℕ) → TurnSoFar first old now number → new ≡ now → PassesOver now number → next < now.cpus → ((a : ℕ) → number ≡ a % now.cpus → next ≡ (a + 1) % now.cpus) → TurnSoFar first old new next
@@ -28,12 +28,12 @@ turn_passes first old now new number next t same over lt follows =
           let so = t.order order a f e r s in
           let named_is : named old.cpus (f so.0) ≡ number = r.names so.0 ∙ sym so.1 in
           let over_named : IsPassedOver old.image old.cpus old.budget old.log.cycles (named old.cpus (f so.0)) = rw named_is over_old in
-          let on : Stands order old (passed (f so.0)) = stands_passed old.image old.cpus old.budget order old.log.cycles (f so.0) so.2 over_named in
+          let on : OrderAt order old (passed (f so.0)) = stands_passed old.image old.cpus old.budget order old.log.cycles (f so.0) so.2 over_named in
           (so.0 + 1, follows_old (a + so.0) so.1 ∙ ap (λ (x : ℕ). x % old.cpus) (add_assoc a so.0 1), rw r.step at on));
     }
 
 -- one makes a cycle
-pub turn_makes : (first : ℕ) (old now new : MachineView) (number : ℕ) → TurnSoFar first old now number → MakesCycle number now new → (PassesOver now number → ⊥) → (order : Order) (a : ℕ) (f : ℕ → Naming) → first ≡ a % old.cpus → Rises old.cpus a f → Stands order old (f 0) → (i : ℕ) × (number ≡ (a + i) % old.cpus) × Stands order new (followed (f i))
+pub turn_makes : (first : ℕ) (old now new : MachineView) (number : ℕ) → TurnSoFar first old now number → MakesCycle number now new → (PassesOver now number → ⊥) → (order : Order) (a : ℕ) (f : ℕ → Naming) → first ≡ a % old.cpus → Rises old.cpus a f → OrderAt order old (f 0) → (i : ℕ) × (number ≡ (a + i) % old.cpus) × OrderAt order new (followed (f i))
 turn_makes first old now new number t makes lives order a f e r s =
     let so = t.order order a f e r s in
     let named_is : number ≡ named old.cpus (f so.0) = so.1 ∙ sym (r.names so.0) in
@@ -46,10 +46,10 @@ pub match_err : {T F : Type 0} (r : Result T F) (P : T → Type 0) (Q : F → Ty
 match_err (Ok x) P Q h q = cc
 match_err (Err e) P Q h q = q e
 
-pub turn_fails : (first : ℕ) (old now new : MachineView) (number : ℕ) → TurnSoFar first old now number → new ≡ now → (order : Order) (a : ℕ) (f : ℕ → Naming) → first ≡ a % old.cpus → Rises old.cpus a f → Stands order old (f 0) → (i : ℕ) × Stands order new (f i)
+pub turn_fails : (first : ℕ) (old now new : MachineView) (number : ℕ) → TurnSoFar first old now number → new ≡ now → (order : Order) (a : ℕ) (f : ℕ → Naming) → first ≡ a % old.cpus → Rises old.cpus a f → OrderAt order old (f 0) → (i : ℕ) × OrderAt order new (f i)
 turn_fails first old now new number t same order a f e r s =
     let so = t.order order a f e r s in
-    (so.0, subst (λ (m : MachineView). Stands order m (f so.0)) (sym (same ∙ t.unchanged)) so.2)
+    (so.0, subst (λ (m : MachineView). OrderAt order m (f so.0)) (sym (same ∙ t.unchanged)) so.2)
 
 pub made_differs : {F : Type 0} (t : Turn) → t ≡ turns.PassedOver → ◌≡◌ {A = Result Turn F} (Ok t) (Ok turns.Made) → ⊥
 made_differs t e h = cc

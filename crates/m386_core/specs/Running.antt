@@ -6,8 +6,8 @@ use Rattle.m386_core.specs.Order.{Naming, named, passed, StandsAt}
 use Rattle.m386_core.specs.Place.{HasFinished}
 
 -- the order has named processors that gave the cycles of this machine, and stands at s
-abbrev pub Stands : Order → MachineView → Naming → Type 0
-Stands order m s = StandsAt m.image m.cpus m.budget order m.log.cycles s
+abbrev pub OrderAt : Order → MachineView → Naming → Type 0
+OrderAt order m s = StandsAt m.image m.cpus m.budget order m.log.cycles s
 
 -- From f 0 on, and as long as they are passed over, the processors a, a + 1 and so on are named, modulo the count.
 pub record Rises (c a : ℕ) (f : ℕ → Naming) : Type 0 where

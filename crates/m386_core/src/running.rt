@@ -4,7 +4,7 @@ ghost use Rattle.m386_step.specs.Run.{Run};
 ghost use Rattle.m386_core.specs.declared.order.Order.{Order as OrderData};
 ghost use Rattle.m386_core.specs.Machine.{PassesOver, MakesCycle, GoesOn};
 ghost use Rattle.m386_core.specs.Order.{draw_of, listed, followed, Naming, Turns, Drawn, InOrder};
-ghost use Rattle.m386_core.specs.Running.{Stands, Rises, gap, IsOver};
+ghost use Rattle.m386_core.specs.Running.{OrderAt, Rises, gap, IsOver};
 
 use crate::machine::Machine;
 use crate::order::Order;
@@ -60,9 +60,9 @@ impl<'a> Machine<'a> {
         ensures goes { GoesOn self.old self.new }
         ensures below { IfOk result (λ number. number < self.old.cpus) }
         ensures order { (order : OrderData) (a : ℕ) (f : ℕ → Naming) → first ≡ a % self.old.cpus → Rises self.old.cpus a f
-            → Stands order self.old (f 0)
-            → MatchResult result (λ number. (i : ℕ) × (number ≡ (a + i) % self.old.cpus) × Stands order self.new (followed (f i)))
-            (λ _. (i : ℕ) × Stands order self.new (f i)) }
+            → OrderAt order self.old (f 0)
+            → MatchResult result (λ number. (i : ℕ) × (number ≡ (a + i) % self.old.cpus) × OrderAt order self.new (followed (f i)))
+            (λ _. (i : ℕ) × OrderAt order self.new (f i)) }
     {
         let mut number = first;
         while self.next(number)? == Turn::PassedOver {
@@ -75,7 +75,7 @@ impl<'a> Machine<'a> {
     fn run_turns(&mut self) -> Result<(), NoMemory>
         ensures goes { GoesOn self.old self.new }
         ensures over { OnOk result (IsOver self.new) }
-        ensures order { (order : OrderData) → Stands order self.old (Turns 0) → (s : Naming) × Stands order self.new s }
+        ensures order { (order : OrderData) → OrderAt order self.old (Turns 0) → (s : Naming) × OrderAt order self.new s }
     {
         let cpus = self.cpus();
         let mut number = 0;
@@ -90,7 +90,7 @@ impl<'a> Machine<'a> {
     fn run_drawn(&mut self, seed: u64) -> Result<(), NoMemory>
         ensures goes { GoesOn self.old self.new }
         ensures over { OnOk result (IsOver self.new) }
-        ensures order { (order : OrderData) → Stands order self.old (Drawn (draw_of seed) 0) → (s : Naming) × Stands order self.new s }
+        ensures order { (order : OrderData) → OrderAt order self.old (Drawn (draw_of seed) 0) → (s : Naming) × OrderAt order self.new s }
     {
         let cpus = self.cpus() as u64;
         let mut x = seed;
@@ -105,8 +105,8 @@ impl<'a> Machine<'a> {
     /// Names the members that are below the count, one after another.
     fn run_listed(&mut self, members: &[u8]) -> Result<(), NoMemory>
         ensures goes { GoesOn self.old self.new }
-        ensures order { (order : OrderData) → Stands order self.old (listed (filter (λ p. nat_lt p self.old.cpus) members.now))
-            → MatchResult result (λ _. Stands order self.new (Turns 0)) (λ _. (s : Naming) × Stands order self.new s) }
+        ensures order { (order : OrderData) → OrderAt order self.old (listed (filter (λ p. nat_lt p self.old.cpus) members.now))
+            → MatchResult result (λ _. OrderAt order self.new (Turns 0)) (λ _. (s : Naming) × OrderAt order self.new s) }
     {
         let cpus = self.cpus();
         for &cpu in members {

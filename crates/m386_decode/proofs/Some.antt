@@ -7,7 +7,7 @@ use Rattle.m386_opmap.specs.declared.outcome.Reading.TheVariants.{Spelled, More,
 use Rattle.m386_opmap.specs.Readings.{reading_of}
 use Rattle.m386_opmap.specs.Spelling.{IsReadingOf}
 use Rattle.m386_opmap.proofs.Laws.{reading_is}
-use Rattle.m386_opmap.proofs.Sound.{AreBytes, front_bytes}
+use Rattle.m386_opmap.proofs.Sound.{AllAreBytes, front_bytes}
 use Rattle.m386_decode.specs.declared.decoded.Decoded.{Decoded}
 use Rattle.m386_decode.specs.Decoding.{WantsMore, Concludes, IsAnswered}
 use Rattle.m386_base.specs.declared.fault.Break.TheVariants as breaks
@@ -31,15 +31,15 @@ one_more front b More wants few said = inr said
 abbrev AnswerAmong : List ℕ → Type 0
 AnswerAmong bytes = (answer : Result Decoded Break) × IsAnswered bytes answer
 
-answer_among : (front rest : List ℕ) → WantsMore front → AreBytes (front ++ rest) → length (front ++ rest) ≡ 15 → AnswerAmong (front ++ rest)
+answer_among : (front rest : List ℕ) → WantsMore front → AllAreBytes (front ++ rest) → length (front ++ rest) ≡ 15 → AnswerAmong (front ++ rest)
 answer_among front [] wants are size =
     let whole : length front ≡ 15 = ap length (sym (append-nil front)) ∙ size in
     (Err (breaks.Fault general_protection_of), record { front = front; rest = []; parts = refl; concludes = inr (whole, wants, refl) })
 answer_among front (b ∷ rest) wants are size =
     let join : (front ++ b ∷ []) ++ rest ≡ front ++ b ∷ rest = append_assoc front (b ∷ []) rest in
-    let P : List ℕ → Type 0 = AreBytes in
+    let P : List ℕ → Type 0 = AllAreBytes in
     let Q : List ℕ → Type 0 = AnswerAmong in
-    let whole : AreBytes ((front ++ b ∷ []) ++ rest) = subst P (sym join) are in
+    let whole : AllAreBytes ((front ++ b ∷ []) ++ rest) = subst P (sym join) are in
     let sizes : length ((front ++ b ∷ []) ++ rest) ≡ 15 = ap length join ∙ size in
     let few : length (front ++ b ∷ []) ≤ 15 = omega (arith, sizes, length-append (front ++ b ∷ []) rest) in
     ⊎_elim
@@ -48,5 +48,5 @@ answer_among front (b ∷ rest) wants are size =
     (one_more front b (reading_of (front ++ b ∷ [])) wants few (reading_is (front ++ b ∷ []) (front_bytes (front ++ b ∷ []) rest whole)))
 
 -- of fifteen bytes some front has an answer
-pub some_answer : (bytes : List ℕ) → length bytes ≡ 15 → AreBytes bytes → (answer : Result Decoded Break) × IsAnswered bytes answer
+pub some_answer : (bytes : List ℕ) → length bytes ≡ 15 → AllAreBytes bytes → (answer : Result Decoded Break) × IsAnswered bytes answer
 some_answer bytes size are = answer_among [] bytes wants_nothing are size

@@ -24,7 +24,7 @@ descriptor_in bytes =
 
 -- The eight bytes in which a descriptor stands.
 -- Source: Intel 80386 PRM 5.1.1
-unfoldable pub bytes_of : Desc → List ℕ
-bytes_of d =
+unfoldable pub descriptor_bytes : Desc → List ℕ
+descriptor_bytes d =
     d.raw_limit % 2 ^ 8 ∷ d.raw_limit / 2 ^ 8 % 2 ^ 8 ∷ d.base % 2 ^ 8 ∷ d.base / 2 ^ 8 % 2 ^ 8 ∷ d.base / 2 ^ 16 % 2 ^ 8
     ∷ d.access ∷ (d.raw_limit / 2 ^ 16 + d.flags * 2 ^ 4) ∷ d.base / 2 ^ 24 ∷ []

@@ -1,14 +1,14 @@
 //! A descriptor in and out of its eight bytes.
 ghost use Rattle.std.specs.Prelude.{◌≡◌, ◌<◌, ◌^◌};
-ghost use Rattle.m386_desc.specs.Bytes.{descriptor_in, bytes_of, two_doublewords};
+ghost use Rattle.m386_desc.specs.Bytes.{descriptor_in, descriptor_bytes, two_doublewords};
 
 use m386_base::desc::Desc;
 
 /// The descriptor that stands in two doublewords, the low one first (PRM 5.1.1).
-#[tactic(auto, unfolding(crate::specs::Bytes::descriptor_in, crate::specs::Bytes::bytes_of, crate::specs::Bytes::two_doublewords))]
+#[tactic(auto, unfolding(crate::specs::Bytes::descriptor_in, crate::specs::Bytes::descriptor_bytes, crate::specs::Bytes::two_doublewords))]
 pub fn desc_of(lo: u32, hi: u32) -> Desc
     ensures exact { result ≡ descriptor_in (two_doublewords lo hi) }
-    ensures inverse { bytes_of result ≡ two_doublewords lo hi }
+    ensures inverse { descriptor_bytes result ≡ two_doublewords lo hi }
 {
     let base = (lo >> 16) + ((hi & 0xff) << 16) + ((hi >> 24) << 24);
     let raw_limit = (lo & 0xffff) + ((hi >> 16 & 0xf) << 16);
@@ -20,16 +20,16 @@ pub fn desc_of(lo: u32, hi: u32) -> Desc
 /// The eight bytes in which a descriptor stands (PRM 5.1.1).
 #[tactic(auto, using(crate::proofs::Inverse::inverse))]
 pub fn desc_bytes(d: &Desc) -> [u8; 8]
-    ensures exact { result ≡ bytes_of d.now }
+    ensures exact { result ≡ descriptor_bytes d.now }
     ensures inverse { descriptor_in result ≡ d.now }
 {
     laid_out(d)
 }
 
 /// The base, limit, access byte and flags, each in its place.
-#[tactic(auto, unfolding(crate::specs::Bytes::bytes_of))]
+#[tactic(auto, unfolding(crate::specs::Bytes::descriptor_bytes))]
 fn laid_out(d: &Desc) -> [u8; 8]
-    ensures bytes { result ≡ bytes_of d.now }
+    ensures bytes { result ≡ descriptor_bytes d.now }
     ensures fits { d.now.base < 2 ^ 32 }
 {
     let limit = d.raw_limit;

@@ -8,7 +8,7 @@ use Rattle.m386_opmap.specs.declared.op.Rep.TheVariants.{Once, Equal, NotEqual}
 use Rattle.m386_opmap.specs.Prefix.{prefixes_of, last_of, later, segment_named, rep_named}
 use Rattle.m386_encode.specs.Candidates.{segment_prefix, rep_prefix, byte_if}
 use Rattle.m386_encode.specs.Order.{is_before}
-use Rattle.m386_encode.proofs.Least.{Within, AllWithin, Rises, rising_first}
+use Rattle.m386_encode.proofs.Least.{Within, AllWithin, AscendsFrom, rising_first}
 use Rattle.m386_encode.proofs.Marks.{marks, IsSegment}
 
 -- rising, from a number on and below another
@@ -16,7 +16,7 @@ abbrev Between : ℕ → ℕ → List ℕ → Type 0
 Between from to [] = from ≤ to
 Between from to (x ∷ xs) = (from ≤ x) × Between (x + 1) to xs
 
-rises : (from to : ℕ) (xs : List ℕ) → Between from to xs → Rises from xs
+rises : (from to : ℕ) (xs : List ℕ) → Between from to xs → AscendsFrom from xs
 rises from to [] b = tt
 rises from to (x ∷ xs) b = (b.0, rises (x + 1) to xs b.1)
 
@@ -47,7 +47,7 @@ rep_between Once = omega arith
 rep_between Equal = (omega arith, omega arith)
 rep_between NotEqual = (omega arith, omega arith)
 
-marks_rise : (seg : Option ℕ) (narrow lock : Bool) (rep : Rep) → IsSegment seg → Rises 0 (marks seg narrow lock rep)
+marks_rise : (seg : Option ℕ) (narrow lock : Bool) (rep : Rep) → IsSegment seg → AscendsFrom 0 (marks seg narrow lock rep)
 marks_rise seg narrow lock rep h =
     rises 0 0xf4 (marks seg narrow lock rep)
     (between_append 0 0xf1 0xf4 _ (rep_prefix rep)

@@ -18,11 +18,11 @@ use Rattle.m386_opmap.specs.declared.row.Operand.{Operand}
 use Rattle.m386_opmap.specs.declared.row.Operand.TheVariants.{Absent, E, M, R, G, S, Low, I, Ib, Iw, SignedByte, Jb, J, O, A, X, Table, Eax, Cl, Dx, One, Es, Cs, Ss, Ds, Fs, Gs, Cr0}
 use Rattle.m386_opmap.specs.declared.row.Row.{Row}
 use Rattle.m386_opmap.specs.declared.row.Size.{Size}
-use Rattle.m386_opmap.specs.Forms.{bytes_in, number, extended}
+use Rattle.m386_opmap.specs.Forms.{width_bytes, number, extended}
 use Rattle.m386_opmap.specs.Opcodes.{opcode_rows}
 use Rattle.m386_opmap.specs.Operands.{operand_value, operand_length, has_modrm, wants_memory, wants_register}
 use Rattle.m386_base.proofs.Members.{contains_first, contains_later}
-use Rattle.m386_encode.specs.Candidates.{lowest, is_low}
+use Rattle.m386_encode.specs.Candidates.{low_bytes, is_low}
 use Rattle.m386_encode.specs.Wide.{is_always_near, is_full, HasFullRow}
 use Rattle.m386_encode.proofs.InFull.{bytes_next, number_again, extended_fits, distance_again}
 use Rattle.m386_encode.proofs.Octets.{lowest_are, lowest_size}
@@ -73,8 +73,8 @@ is_kept x = not (is_tail x) && not (is_low x) && not (is_short x)
 
 -- the bytes behind opcode and ModRM of the operand in its full size
 abbrev pub full_tail : Width → List ℕ → Operand → List ℕ
-full_tail w tail SignedByte = lowest (bytes_in w) (extended W8 w (number (take 1 tail)))
-full_tail w tail Jb = lowest (bytes_in w) (extended W8 W32 (number (take 1 tail)))
+full_tail w tail SignedByte = low_bytes (width_bytes w) (extended W8 w (number (take 1 tail)))
+full_tail w tail Jb = low_bytes (width_bytes w) (extended W8 W32 (number (take 1 tail)))
 full_tail w tail One = 1 ∷ []
 full_tail w tail _ = []
 
@@ -189,8 +189,8 @@ length_full w tail Low h = cc
 length_full w tail I h = cc
 length_full w tail Ib h = cc
 length_full w tail Iw h = cc
-length_full w tail SignedByte h = lowest_size (bytes_in w) _
-length_full w tail Jb h = lowest_size (bytes_in w) _
+length_full w tail SignedByte h = lowest_size (width_bytes w) _
+length_full w tail Jb h = lowest_size (width_bytes w) _
 length_full w tail J h = cc
 length_full w tail O h = cc
 length_full w tail A h = cc
@@ -222,8 +222,8 @@ full_are w tail Low h k l = cc
 full_are w tail I h k l = cc
 full_are w tail Ib h k l = cc
 full_are w tail Iw h k l = cc
-full_are w tail SignedByte h k l = lowest_are (bytes_in w) _ k l
-full_are w tail Jb h k l = lowest_are (bytes_in w) _ k l
+full_are w tail SignedByte h k l = lowest_are (width_bytes w) _ k l
+full_are w tail Jb h k l = lowest_are (width_bytes w) _ k l
 full_are w tail J h k l = cc
 full_are w tail O h k l = cc
 full_are w tail A h k l = cc

@@ -17,14 +17,14 @@ AllWithin [] bs = Unit {0}
 AllWithin (x ∷ xs) bs = Within x bs × AllWithin xs bs
 
 -- rising from a number on
-abbrev pub Rises : ℕ → List ℕ → Type 0
-Rises n [] = Unit {0}
-Rises n (x ∷ xs) = (n ≤ x) × Rises (x + 1) xs
+abbrev pub AscendsFrom : ℕ → List ℕ → Type 0
+AscendsFrom n [] = Unit {0}
+AscendsFrom n (x ∷ xs) = (n ≤ x) × AscendsFrom (x + 1) xs
 
 skip : (x y : ℕ) (bs : List ℕ) → x ≢ y → Within x (y ∷ bs) → Within x bs
 skip x y bs n h = let other : (y == x) ≡ false = grind (arith, nat_tests) in rw other at h
 
-shift : (n y : ℕ) (xs bs : List ℕ) → y < n → Rises n xs → AllWithin xs (y ∷ bs) → AllWithin xs bs
+shift : (n y : ℕ) (xs bs : List ℕ) → y < n → AscendsFrom n xs → AllWithin xs (y ∷ bs) → AllWithin xs bs
 shift n y [] bs h r a = tt
 shift n y (x ∷ xs) bs h r a = (skip x y bs (λ e. absurd (omega (arith, e, r.0, h))) a.0, shift (x + 1) y xs bs (omega (arith, r.0, h)) r.1 a.1)
 
@@ -37,7 +37,7 @@ without_by : (c : Bool) (y x : ℕ) (xs bs : List ℕ) → (x == y) ≡ c → (c
 without_by true y x xs bs e f g = f refl
 without_by false y x xs bs e f g = g refl
 
-without_within : (n y : ℕ) (xs bs : List ℕ) → Rises n xs → AllWithin xs (y ∷ bs) → AllWithin (without y xs) bs
+without_within : (n y : ℕ) (xs bs : List ℕ) → AscendsFrom n xs → AllWithin xs (y ∷ bs) → AllWithin (without y xs) bs
 unfolding without
 without_within n y [] bs r a = tt
 without_within n y (x ∷ xs) bs r a =
@@ -54,21 +54,21 @@ unfolding without
 without_size y [] = omega arith
 without_size y (x ∷ xs) = size_by (x == y) x xs (without y xs) (without_size y xs)
 
-more : (n m : ℕ) (xs : List ℕ) → n ≤ m → Rises m xs → Rises n xs
+more : (n m : ℕ) (xs : List ℕ) → n ≤ m → AscendsFrom m xs → AscendsFrom n xs
 more n m [] h r = tt
 more n m (x ∷ xs) h r = (omega (arith, r.0), r.1)
 
-rises_by : (c : Bool) (n x : ℕ) (xs ys : List ℕ) → n ≤ x → Rises (x + 1) xs → Rises (x + 1) ys → Rises n (cond c xs (x ∷ ys))
+rises_by : (c : Bool) (n x : ℕ) (xs ys : List ℕ) → n ≤ x → AscendsFrom (x + 1) xs → AscendsFrom (x + 1) ys → AscendsFrom n (cond c xs (x ∷ ys))
 rises_by true n x xs ys h r s = more n (x + 1) xs (omega arith) r
 rises_by false n x xs ys h r s = (h, s)
 
-without_rises : (n y : ℕ) (xs : List ℕ) → Rises n xs → Rises n (without y xs)
+without_rises : (n y : ℕ) (xs : List ℕ) → AscendsFrom n xs → AscendsFrom n (without y xs)
 unfolding without
 without_rises n y [] r = tt
 without_rises n y (x ∷ xs) r = rises_by (x == y) n x xs (without y xs) r.0 r.1 (without_rises (x + 1) y xs r.1)
 
 -- rising bytes are no more than others that have them all
-pub no_more : (n : ℕ) (xs bs : List ℕ) → Rises n xs → AllWithin xs bs → length xs ≤ length bs
+pub no_more : (n : ℕ) (xs bs : List ℕ) → AscendsFrom n xs → AllWithin xs bs → length xs ≤ length bs
 no_more n [] [] r a = omega arith
 no_more n (x ∷ xs) [] r a = (let f : false ≡ true = a.0 in cc)
 no_more n xs (y ∷ bs) r a = omega (arith, without_size y xs, no_more n (without y xs) bs (without_rises n y xs r) (without_within n y xs bs r a))
@@ -77,7 +77,7 @@ less_above : (x y : ℕ) (xs bs : List ℕ) → x < y → is_less (y ∷ bs) (x 
 unfolding is_less
 less_above x y xs bs h = grind (arith, nat_tests)
 
-least : (n : ℕ) (xs bs : List ℕ) → Rises n xs → AllWithin xs bs → length xs ≡ length bs → is_less bs xs ≡ false
+least : (n : ℕ) (xs bs : List ℕ) → AscendsFrom n xs → AllWithin xs bs → length xs ≡ length bs → is_less bs xs ≡ false
 unfolding is_less
 least n [] [] r a h = refl
 least n (x ∷ xs) [] r a h = absurd (omega (arith, h))
@@ -93,7 +93,7 @@ least n (x ∷ xs) (y ∷ bs) r a h =
     ]
 
 -- others that have them all come not before rising bytes
-pub rising_first : (n : ℕ) (xs bs : List ℕ) → Rises n xs → AllWithin xs bs → is_before bs xs ≡ false
+pub rising_first : (n : ℕ) (xs bs : List ℕ) → AscendsFrom n xs → AllWithin xs bs → is_before bs xs ≡ false
 rising_first n xs bs r a =
     elim (cases_Bool (nat_lt (length xs) (length bs))) [
       | inl e ↦ not_before_longer bs xs (ltb-true (length xs) (length bs) e)

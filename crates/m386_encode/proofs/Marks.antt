@@ -104,8 +104,8 @@ marks_say (Some (suc (suc (suc (suc (suc zero)))))) false false Equal h = refl
 marks_say (Some (suc (suc (suc (suc (suc zero)))))) false false NotEqual h = refl
 marks_say (Some (suc (suc (suc (suc (suc (suc n))))))) narrow lock rep h = absurd (omega arith)
 
-pub named : (b : ℕ) → IsSegment (segment_named b)
-named b = grind (arith)
+pub segment_is_named : (b : ℕ) → IsSegment (segment_named b)
+segment_is_named b = grind (arith)
 
 -- the prefixes are bytes that are prefixes, and at most four
 pub marks_pass : (seg : Option ℕ) (narrow lock : Bool) (rep : Rep) → IsSegment seg →

@@ -16,7 +16,7 @@ use Rattle.m386_opmap.specs.Rows.{Covers}
 use Rattle.m386_opmap.proofs.Complete.{form_middle, form_absent}
 use Rattle.m386_opmap.proofs.Lawful.{opcodes_lawful, lawful_row, selected, whole_row}
 use Rattle.m386_opmap.proofs.Outcomes.{fields_at}
-use Rattle.m386_encode.specs.Candidates.{is_middle, is_low, is_place, opcode, middle, segment, place_bytes, form_bytes}
+use Rattle.m386_encode.specs.Candidates.{is_middle, is_low, is_place, opcode, middle_of, named_segment, place_bytes, form_bytes}
 use Rattle.m386_encode.specs.Order.{is_before}
 use Rattle.m386_encode.proofs.Marks.{IsSegment}
 use Rattle.m386_encode.proofs.Octets.{place_are, place_size}
@@ -31,7 +31,7 @@ use Rattle.m386_encode.proofs.Whole.{key_selected, key_whole}
 -- The ModRM byte with what follows it, and the opcode, that the candidate of a row has from these operands, by a mode.
 pub record Named (r : Row) (f : Fields) (xs : List Arg) (mode : ℕ) (modrm : List ℕ) : Type 0 where
   pub mid : ℕ
-  pub form : Form (segment xs) (form_bytes r mode xs) mid f.place
+  pub form : Form (named_segment xs) (form_bytes r mode xs) mid f.place
   pub first : is_before modrm (form_bytes r mode xs) ≡ false
   pub sized : displacement_size (form_bytes r mode xs) ≡ displacement_size modrm
   pub are : Bytes (form_bytes r mode xs)
@@ -72,16 +72,16 @@ module _ (r : Row) (ps : List ℕ) (o : ℕ) (modrm tail : List ℕ) (mid : ℕ)
   named_third = names (fields_at ps o mid place) width tail r.third (form_names (prefixes_of ps).seg modrm mid place form)
 
   -- their segment register is none, or that of the prefixes
-  pub seg_either : (P : Option ℕ → Type 0) → P None → P (prefixes_of ps).seg → P (segment operands)
+  pub seg_either : (P : Option ℕ → Type 0) → P None → P (prefixes_of ps).seg → P (named_segment operands)
   seg_either P e s = seg_is P (prefixes_of ps).seg (value r.first) (value r.second) (value r.third) named_first named_second named_third e s
 
-  pub plain_first : is_plain r.first ≡ true → (prefixes_of ps).seg ≡ segment operands
+  pub plain_first : is_plain r.first ≡ true → (prefixes_of ps).seg ≡ named_segment operands
   plain_first h = sym (seg_of_first (prefixes_of ps).seg (value r.first) (value r.second) (value r.third) named_first (plain_memory_value (fields_at ps o mid place) width tail r.first h))
 
-  pub plain_second : is_plain r.second ≡ true → (prefixes_of ps).seg ≡ segment operands
+  pub plain_second : is_plain r.second ≡ true → (prefixes_of ps).seg ≡ named_segment operands
   plain_second h = sym (seg_of_second (prefixes_of ps).seg (value r.first) (value r.second) (value r.third) named_first named_second (plain_memory_value (fields_at ps o mid place) width tail r.second h))
 
-  place_agrees : is_memory place ≡ true → (prefixes_of ps).seg ≡ segment operands
+  place_agrees : is_memory place ≡ true → (prefixes_of ps).seg ≡ named_segment operands
   place_agrees h =
       let f : Fields = fields_at ps o mid place in
       elim (or_cases (is_place r.first) (is_place r.second) (place_stands f width tail r shape.placed wanted (wanted ∙ memory_some place h))) [
@@ -89,8 +89,8 @@ module _ (r : Row) (ps : List ℕ) (o : ℕ) (modrm tail : List ℕ) (mid : ℕ)
         | inr e ↦ sym (seg_of_second (prefixes_of ps).seg (value r.first) (value r.second) (value r.third) named_first named_second (ap is_memory (place_said f width tail r.second e) ∙ h))
       ]
 
-  form_again : Form (segment operands) modrm mid place
-  form_again = form_under (prefixes_of ps).seg (segment operands) modrm mid place (is_memory place) refl form place_agrees
+  form_again : Form (named_segment operands) modrm mid place
+  form_again = form_under (prefixes_of ps).seg (named_segment operands) modrm mid place (is_memory place) refl form place_agrees
 
   module _ (mode : ℕ) (covered : Covers r (8 * o + mid)) (are : Bytes modrm) (fits : Fits mode place modrm) where
     with_place : has_modrm r ≡ true → Named r (fields_at ps o mid place) operands mode modrm
@@ -100,20 +100,20 @@ module _ (r : Row) (ps : List ℕ) (o : ℕ) (modrm tail : List ℕ) (mid : ℕ)
         let bits : mid < 8 = form_middle form in
         let key = key_selected f width tail r shape.placed wanted same (omega (arith, covered.0, covered.1)) bits (no_low r shape with) covered in
         let at = some_place place (sym wanted ∙ with) in
-        let bytes : form_bytes r mode operands ≡ place_bytes (middle r operands) mode at.0 = form_taken f width tail r shape.placed wanted mode at.0 at.1 with in
-        let P : Option Arg → Type 0 = λ x. AgainOf (segment operands) (middle r operands) mode x modrm in
-        let again : Again (segment operands) (middle r operands) mode at.0 modrm = subst P at.1 (place_again (segment operands) modrm mid place (middle r operands) mode key.2 key.1 are fits form_again) in
-        let F : List ℕ → Type 0 = λ x. Form (segment operands) x (middle r operands) (Some at.0) in
-        let G : Option Arg → Type 0 = λ x. Form (segment operands) (form_bytes r mode operands) (middle r operands) x in
+        let bytes : form_bytes r mode operands ≡ place_bytes (middle_of r operands) mode at.0 = form_taken f width tail r shape.placed wanted mode at.0 at.1 with in
+        let P : Option Arg → Type 0 = λ x. AgainOf (named_segment operands) (middle_of r operands) mode x modrm in
+        let again : Again (named_segment operands) (middle_of r operands) mode at.0 modrm = subst P at.1 (place_again (named_segment operands) modrm mid place (middle_of r operands) mode key.2 key.1 are fits form_again) in
+        let F : List ℕ → Type 0 = λ x. Form (named_segment operands) x (middle_of r operands) (Some at.0) in
+        let G : Option Arg → Type 0 = λ x. Form (named_segment operands) (form_bytes r mode operands) (middle_of r operands) x in
         let B : List ℕ → Type 0 = λ x. is_before modrm x ≡ false in
         let A : List ℕ → Type 0 = Bytes in
         record {
-          mid = middle r operands;
+          mid = middle_of r operands;
           form = subst G (sym at.1) (subst F (sym bytes) again.form);
           first = subst B (sym bytes) again.first;
           sized = ap displacement_size bytes ∙ again.sized;
-          are = subst A (sym bytes) (place_are (middle r operands) mode at.0 key.2);
-          size = rw with (omega (arith, ap length bytes, place_size (middle r operands) mode at.0));
+          are = subst A (sym bytes) (place_are (middle_of r operands) mode at.0 key.2);
+          size = rw with (omega (arith, ap length bytes, place_size (middle_of r operands) mode at.0));
           small = key.2;
           covered = key.3;
           earlier = omega (arith, key.0);
@@ -130,7 +130,7 @@ module _ (r : Row) (ps : List ℕ) (o : ℕ) (modrm tail : List ℕ) (mid : ℕ)
         let key = key_whole f width tail r shape.placed wanted row.from (omega (arith, covered.0, covered.1)) (eight r shape) at in
         let bytes : form_bytes r mode operands ≡ [] = form_free f width tail r shape.placed wanted mode without in
         let same : form_bytes r mode operands ≡ modrm = bytes ∙ sym none.0 in
-        let F : List ℕ → Type 0 = λ x. Form (segment operands) x mid place in
+        let F : List ℕ → Type 0 = λ x. Form (named_segment operands) x mid place in
         let B : List ℕ → Type 0 = λ x. is_before modrm x ≡ false in
         let A : List ℕ → Type 0 = Bytes in
         record {

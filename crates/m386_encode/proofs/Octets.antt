@@ -6,14 +6,14 @@ use Rattle.m386_opmap.specs.declared.op.Arg.{Arg}
 use Rattle.m386_opmap.specs.declared.op.Arg.TheVariants.{Reg, Seg, Imm, Mem, Rel, Far}
 use Rattle.m386_opmap.specs.declared.op.Arg.TheVariants as args
 use Rattle.m386_opmap.specs.Forms.{displacement_length}
-use Rattle.m386_encode.specs.Candidates.{lowest, base, mode_of, index, scale, address_bytes, place_bytes, key_bytes}
+use Rattle.m386_encode.specs.Candidates.{low_bytes, base, mode_of, index, scale, address_bytes, place_bytes, key_bytes}
 use Rattle.std.proofs.lemmas.Bool.{ltb-true, lt-ltb}
-use Rattle.m386_encode.proofs.Values.{Bytes, later}
+use Rattle.m386_encode.proofs.Values.{Bytes, later_bytes}
 
 pub bytes_append : (xs ys : List ℕ) → Bytes xs → Bytes ys → Bytes (xs ++ ys)
 bytes_append [] ys f g k h = g k h
 bytes_append (x ∷ xs) ys f g zero h = f 0 (omega arith)
-bytes_append (x ∷ xs) ys f g (suc k) h = bytes_append xs ys (later x xs f) g k (omega arith)
+bytes_append (x ∷ xs) ys f g (suc k) h = bytes_append xs ys (later_bytes x xs f) g k (omega arith)
 
 bytes_one : (x : ℕ) → x < 256 → Bytes (x ∷ [])
 bytes_one x h zero k = h
@@ -32,14 +32,14 @@ few_either : (c : Bool) (x y z : ℕ) → length (cond c (x ∷ []) (y ∷ z ∷
 few_either true x y z = omega arith
 few_either false x y z = omega arith
 
-pub lowest_are : (n v : ℕ) → Bytes (lowest n v)
-unfolding lowest
+pub lowest_are : (n v : ℕ) → Bytes (low_bytes n v)
+unfolding low_bytes
 lowest_are zero v k h = absurd (omega arith)
 lowest_are (suc n) v zero h = omega arith
 lowest_are (suc n) v (suc k) h = lowest_are n (v / 256) k (omega arith)
 
-pub lowest_size : (n v : ℕ) → length (lowest n v) ≡ n
-unfolding lowest
+pub lowest_size : (n v : ℕ) → length (low_bytes n v) ≡ n
+unfolding low_bytes
 lowest_size zero v = refl
 lowest_size (suc n) v = omega (arith, lowest_size n (v / 256))
 
@@ -109,8 +109,8 @@ place_size mid mode (Mem a) =
     let m : ℕ = mode_of a.base mode in
     let b : ℕ = base a.base in
     let few : displacement_length m b ≤ 4 = few_displacement_by (m == 0) (b == 5) (m == 1) in
-    let size : length (lowest (displacement_length m b) a.disp) ≡ displacement_length m b = lowest_size (displacement_length m b) a.disp in
-    omega (arith, few, size, address_size mid mode a, length-append (address_bytes mid mode a) (lowest (displacement_length m b) a.disp))
+    let size : length (low_bytes (displacement_length m b) a.disp) ≡ displacement_length m b = lowest_size (displacement_length m b) a.disp in
+    omega (arith, few, size, address_size mid mode a, length-append (address_bytes mid mode a) (low_bytes (displacement_length m b) a.disp))
 place_size mid mode (Rel n) = omega arith
 place_size mid mode (Far s o) = omega arith
 

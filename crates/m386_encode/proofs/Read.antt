@@ -12,8 +12,8 @@ use Rattle.m386_opmap.specs.declared.outcome.Reading.TheVariants.{Spelled}
 use Rattle.m386_opmap.specs.Spelling.{Spells, IsReadingOf}
 use Rattle.m386_encode.specs.Shortest.{IsSpelling}
 
-pub read_whole : (op read : Op) (bytes : List ℕ) (len : ℕ) → IsReadingOf bytes (Spelled read len) → len ≡ length bytes → read ≡ op → IsSpelling op bytes
-read_whole op read bytes len s e same =
+pub whole_is_spelling : (op read : Op) (bytes : List ℕ) (len : ℕ) → IsReadingOf bytes (Spelled read len) → len ≡ length bytes → read ≡ op → IsSpelling op bytes
+whole_is_spelling op read bytes len s e same =
     let whole : take len bytes ≡ bytes = rw e (take_all (length bytes) bytes (omega arith)) in
     let P : List ℕ → Type 0 = λ bs. Spells op bs in
     let Q : Op → Type 0 = λ o. Spells o (take len bytes) in

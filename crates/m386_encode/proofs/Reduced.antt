@@ -21,8 +21,8 @@ use Rattle.m386_opmap.specs.Rows.{Covers}
 use Rattle.m386_opmap.specs.Spelling.{Spells, opcode_bytes}
 use Rattle.m386_opmap.proofs.Lawful.{opcodes_lawful, lawful_row, begins_from, opcode_of_row, IsOpcode, byte, pair}
 use Rattle.m386_opmap.proofs.Outcomes.{fields_at}
-use Rattle.m386_opmap.proofs.Sound.{AreBytes, front_bytes, back_bytes}
-use Rattle.m386_encode.specs.Candidates.{is_middle, is_low, opcode, segment, key_bytes, form_bytes, tail_bytes, prefixes, segment_prefix, candidate}
+use Rattle.m386_opmap.proofs.Sound.{AllAreBytes, front_bytes, back_bytes}
+use Rattle.m386_encode.specs.Candidates.{is_middle, is_low, opcode, named_segment, key_bytes, form_bytes, tail_bytes, prefixes, segment_prefix, candidate}
 use Rattle.m386_encode.specs.Order.{is_before}
 use Rattle.m386_encode.specs.Shortest.{IsSpelling}
 use Rattle.m386_encode.proofs.Foremost.{marks_first, segment_stands}
@@ -32,7 +32,7 @@ use Rattle.m386_encode.proofs.Named.{Named, named_again, operands, seg_either, p
 use Rattle.m386_encode.proofs.Octets.{key_are, key_size}
 use Rattle.m386_encode.proofs.Ordered.{before_self, before_append}
 use Rattle.m386_encode.proofs.Places.{Fits, mode_for, displacement_size}
-use Rattle.m386_encode.proofs.RowParts.{Shaped, shaped, few, third_is}
+use Rattle.m386_encode.proofs.RowParts.{Shaped, has_shape, few_bytes, third_is}
 use Rattle.m386_encode.proofs.Taken.{tail_taken}
 use Rattle.m386_encode.proofs.Values.{Bytes, is_plain, value_same}
 use Rattle.m386_encode.proofs.Whole.{same_operation, same_rep, key_bytes_are, key_first}
@@ -46,7 +46,7 @@ pub record Reduced (op : Op) (r : Row) (narrow : Bool) (mode : ℕ) (bytes : Lis
 -- the prefixes of four marks
 pub record MarksPass (bs : List ℕ) : Type 0 where
   pub prefixes : All (λ b. is_prefix b ≡ true) bs
-  pub are : AreBytes bs
+  pub are : AllAreBytes bs
   pub few : length bs ≤ 4
 
 pub passing : (seg : Option ℕ) (narrow lock : Bool) (rep : Rep) → IsSegment seg → MarksPass (marks seg narrow lock rep)
@@ -68,7 +68,7 @@ below : (o : ℕ) → (o < 256) ⊎ ((3840 ≤ o) × (o < 4096)) → o < 4096
 below o h = elim h [ inl l ↦ omega arith | inr l ↦ l.1 ]
 
 module _ (r : Row) (ps : List ℕ) (o : ℕ) (modrm tail : List ℕ) (mid : ℕ) (place : Option Arg) (listed : Contains opcode_rows r) (form : Form (prefixes_of ps).seg modrm mid place)
-    (wanted : has_modrm r ≡ is_some place) (covered : Covers r (8 * o + mid)) (are : AreBytes (ps ++ (opcode_bytes o ++ (modrm ++ tail)))) (whole : length tail ≡ tail_length r (prefixes_of ps).narrow) (mode : ℕ) (fits : Fits mode place modrm) where
+    (wanted : has_modrm r ≡ is_some place) (covered : Covers r (8 * o + mid)) (are : AllAreBytes (ps ++ (opcode_bytes o ++ (modrm ++ tail)))) (whole : length tail ≡ tail_length r (prefixes_of ps).narrow) (mode : ℕ) (fits : Fits mode place modrm) where
   abbrev said : Prefixes
   said = prefixes_of ps
 
@@ -76,9 +76,9 @@ module _ (r : Row) (ps : List ℕ) (o : ℕ) (modrm tail : List ℕ) (mid : ℕ)
   f = fields_at ps o mid place
 
   shape : Shaped r
-  shape = shaped r listed
+  shape = has_shape r listed
 
-  behind : AreBytes (modrm ++ tail)
+  behind : AllAreBytes (modrm ++ tail)
   behind = back_bytes (opcode_bytes o) (modrm ++ tail) (back_bytes ps (opcode_bytes o ++ (modrm ++ tail)) are)
 
   modrm_are : Bytes modrm
@@ -97,19 +97,19 @@ module _ (r : Row) (ps : List ℕ) (o : ℕ) (modrm tail : List ℕ) (mid : ℕ)
   rep = cond (is_string r.name) said.rep Once
 
   abbrev new : List ℕ
-  new = marks (segment xs) said.narrow said.lock rep
+  new = marks (named_segment xs) said.narrow said.lock rep
 
   named : Named r f xs mode modrm
   named = named_again r ps o modrm tail mid place listed shape form wanted mode covered modrm_are fits
 
-  segment_is : IsSegment (segment xs)
+  segment_is : IsSegment (named_segment xs)
   segment_is = seg_either r ps o modrm tail mid place listed shape form wanted IsSegment tt (said_is ps)
 
-  say : prefixes_of new ≡ record { seg = segment xs; narrow = said.narrow; lock = said.lock; rep = rep }
-  say = marks_say (segment xs) said.narrow said.lock rep segment_is
+  say : prefixes_of new ≡ record { seg = named_segment xs; narrow = said.narrow; lock = said.lock; rep = rep }
+  say = marks_say (named_segment xs) said.narrow said.lock rep segment_is
 
   pass : MarksPass new
-  pass = passing (segment xs) said.narrow said.lock rep segment_is
+  pass = passing (named_segment xs) said.narrow said.lock rep segment_is
 
   -- the operation and its candidate, by their parts
   abbrev meant : Op
@@ -135,10 +135,10 @@ module _ (r : Row) (ps : List ℕ) (o : ℕ) (modrm tail : List ℕ) (mid : ℕ)
   key_is : key_bytes (opcode r xs) ≡ opcode_bytes (opcode r xs)
   key_is = key_bytes_are (opcode r xs) (number_of_opcode (opcode r xs) opcode_is)
 
-  from_get : (bs : List ℕ) → Bytes bs → AreBytes bs
+  from_get : (bs : List ℕ) → Bytes bs → AllAreBytes bs
   from_get bs b = All-from_get_or (λ b. b < 256) bs 0 b
 
-  parts_are : AreBytes (parts tail)
+  parts_are : AllAreBytes (parts tail)
   parts_are =
       All-append (λ b. b < 256) ((new ++ key_bytes (opcode r xs)) ++ form_bytes r mode xs) tail
       (All-append (λ b. b < 256) (new ++ key_bytes (opcode r xs)) (form_bytes r mode xs)
@@ -150,7 +150,7 @@ module _ (r : Row) (ps : List ℕ) (o : ℕ) (modrm tail : List ℕ) (mid : ℕ)
   abbrev g : Fields
   g = fields_at new (opcode r xs) named.mid place
 
-  seg_is : g.prefixes.seg ≡ segment xs
+  seg_is : g.prefixes.seg ≡ named_segment xs
   seg_is = ap (λ (x : Prefixes). x.seg) say
 
   narrow_is : g.prefixes.narrow ≡ said.narrow
@@ -188,7 +188,7 @@ module _ (r : Row) (ps : List ℕ) (o : ℕ) (modrm tail : List ℕ) (mid : ℕ)
   respelled_parts : (op : Op) → op ≡ meant → suits r said.lock (is_memory place) ≡ true → Spells op (candidate op r said.narrow mode)
   respelled_parts op is suited =
       let bytes : candidate op r said.narrow mode ≡ parts tail = ap (λ (x : Op). candidate x r said.narrow mode) is ∙ is_candidate in
-      let A : List ℕ → Type 0 = AreBytes in
+      let A : List ℕ → Type 0 = AllAreBytes in
       let F : Option ℕ → Type 0 = λ x. Form x (form_bytes r mode xs) named.mid place in
       let L : Bool → Type 0 = λ x. suits r x (is_memory place) ≡ true in
       let N : Bool → Type 0 = λ x. length tail ≡ tail_length r x in
@@ -217,14 +217,14 @@ module _ (r : Row) (ps : List ℕ) (o : ℕ) (modrm tail : List ℕ) (mid : ℕ)
 
   short : length (candidate meant r said.narrow mode) ≤ 15
   short =
-      let most = few r said.narrow shape in
+      let most = few_bytes r said.narrow shape in
       let key = key_size (opcode r xs) r.high (omega (arith, named.covered.1)) in
       omega (arith, ap length is_candidate, most, key, named.size, pass.few, whole, length-append new (key_bytes (opcode r xs)), length-append (new ++ key_bytes (opcode r xs)) (form_bytes r mode xs), length-append ((new ++ key_bytes (opcode r xs)) ++ form_bytes r mode xs) tail)
 
   first : is_before (ps ++ (opcode_bytes o ++ (modrm ++ tail))) (candidate meant r said.narrow mode) ≡ false
   first =
-      let stands : AllWithin (segment_prefix (segment xs)) ps = seg_either r ps o modrm tail mid place listed shape form wanted (λ x. AllWithin (segment_prefix x) ps) tt (segment_stands ps) in
-      let marks : is_before ps new ≡ false = marks_first ps (segment xs) (is_string r.name) segment_is stands in
+      let stands : AllWithin (segment_prefix (named_segment xs)) ps = seg_either r ps o modrm tail mid place listed shape form wanted (λ x. AllWithin (segment_prefix x) ps) tt (segment_stands ps) in
+      let marks : is_before ps new ≡ false = marks_first ps (named_segment xs) (is_string r.name) segment_is stands in
       let K : List ℕ → Type 0 = λ x. is_before (opcode_bytes o) x ≡ false in
       let key : is_before (opcode_bytes o) (key_bytes (opcode r xs)) ≡ false = subst K (sym key_is) (key_first o (opcode r xs) named.earlier) in
       let all : is_before (((ps ++ opcode_bytes o) ++ modrm) ++ tail) (parts tail) ≡ false =
@@ -247,8 +247,8 @@ pub record Respelled (op : Op) (bytes : List ℕ) (s : Spells op bytes) (mode : 
 pub respelled : (op : Op) (bytes : List ℕ) (s : Spells op bytes) (mode : ℕ) → Fits mode s.place s.modrm → Respelled op bytes s mode
 unfolding respelled_parts
 respelled op bytes s mode fits =
-    let A : List ℕ → Type 0 = AreBytes in
-    let are : AreBytes (s.prefixes ++ (opcode_bytes s.opcode ++ (s.modrm ++ s.tail))) = subst A s.parts s.are_bytes in
+    let A : List ℕ → Type 0 = AllAreBytes in
+    let are : AllAreBytes (s.prefixes ++ (opcode_bytes s.opcode ++ (s.modrm ++ s.tail))) = subst A s.parts s.are_bytes in
     record {
       spelled = respelled_parts s.row s.prefixes s.opcode s.modrm s.tail s.middle s.place s.listed s.form s.wanted s.covered are s.whole mode fits op s.spelled s.suited;
       row = refl;
@@ -260,8 +260,8 @@ respelled op bytes s mode fits =
 -- has at most 15 bytes, and comes not after it. Where the spelling names memory, the mode is that of its displacement.
 pub reduced : (op : Op) (bytes : List ℕ) (s : Spells op bytes) (mode : ℕ) → Fits mode s.place s.modrm → Reduced op s.row (prefixes_of s.prefixes).narrow mode bytes
 reduced op bytes s mode fits =
-    let A : List ℕ → Type 0 = AreBytes in
-    let are : AreBytes (s.prefixes ++ (opcode_bytes s.opcode ++ (s.modrm ++ s.tail))) = subst A s.parts s.are_bytes in
+    let A : List ℕ → Type 0 = AllAreBytes in
+    let are : AllAreBytes (s.prefixes ++ (opcode_bytes s.opcode ++ (s.modrm ++ s.tail))) = subst A s.parts s.are_bytes in
     let S : Op → Type 0 = λ x. length (candidate x s.row (prefixes_of s.prefixes).narrow mode) ≤ 15 in
     let B : Op → Type 0 = λ x. is_before bytes (candidate x s.row (prefixes_of s.prefixes).narrow mode) ≡ false in
     let C : List ℕ → Type 0 = λ x. is_before x (candidate (operation s.row (fields_at s.prefixes s.opcode s.middle s.place) s.tail) s.row (prefixes_of s.prefixes).narrow mode) ≡ false in

@@ -11,8 +11,8 @@ answered : (op : Op) (bytes rest : List ℕ) → Spells op bytes → length byte
 answered op bytes rest s few = record { front = bytes; rest = rest; parts = refl; concludes = (few, (refl, s)) }
 
 -- a spelling of at most 15 bytes is decoded to its operation, whatever follows
-pub read_back : (op : Op) (bytes : List ℕ) → Spells op bytes → length bytes ≤ 15 → IsReadBack op bytes
-read_back op bytes s few = record {
+pub spelling_reads_back : (op : Op) (bytes : List ℕ) → Spells op bytes → length bytes ≤ 15 → IsReadBack op bytes
+spelling_reads_back op bytes s few = record {
   answered = λ rest. answered op bytes rest s few;
   alone = λ rest answer a. exact (bytes ++ rest) answer (Ok (record { op = op; len = length bytes })) (inl a) (answered op bytes rest s few);
 }

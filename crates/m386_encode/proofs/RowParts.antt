@@ -42,8 +42,8 @@ is_placed r =
     && (if has_modrm r then is_place r.first || is_place r.second else not (is_place r.first || is_place r.second))
 
 -- at most one operand has bytes behind opcode and ModRM
-abbrev pub is_single : Row → Bool
-is_single r = (not (is_tail r.first) || not (is_tail r.second || is_tail r.third)) && (not (is_tail r.second) || not (is_tail r.third))
+abbrev pub has_one_tail : Row → Bool
+has_one_tail r = (not (is_tail r.first) || not (is_tail r.second || is_tail r.third)) && (not (is_tail r.second) || not (is_tail r.third))
 
 -- how the opcodes of a row stand
 abbrev pub is_keyed : Row → Bool
@@ -59,7 +59,7 @@ abbrev pub is_short : Row → Bool
 is_short r = is_few r false && is_few r true
 
 abbrev pub is_shaped : Row → Bool
-is_shaped r = is_placed r && is_single r && is_keyed r && is_short r
+is_shaped r = is_placed r && has_one_tail r && is_keyed r && is_short r
 
 all_shaped : list_all is_shaped opcode_rows ≡ true
 unfolding tail_length
@@ -68,22 +68,22 @@ all_shaped = refl
 -- what each row of the table has
 pub record Shaped (r : Row) : Type 0 where
   pub placed : is_placed r ≡ true
-  pub single : is_single r ≡ true
+  pub single : has_one_tail r ≡ true
   pub keyed : is_keyed r ≡ true
   pub short : is_short r ≡ true
 
-pub shaped : (r : Row) → Contains opcode_rows r → Shaped r
-shaped r c =
+pub has_shape : (r : Row) → Contains opcode_rows r → Shaped r
+has_shape r c =
     let h : is_shaped r ≡ true = All-contains (λ x. is_shaped x ≡ true) opcode_rows r (AllPass-from_list_all is_shaped opcode_rows all_shaped) c in
-    let p = and_parts (is_placed r && is_single r && is_keyed r) (is_short r) h in
-    let q = and_parts (is_placed r && is_single r) (is_keyed r) p.0 in
-    let t = and_parts (is_placed r) (is_single r) q.0 in
+    let p = and_parts (is_placed r && has_one_tail r && is_keyed r) (is_short r) h in
+    let q = and_parts (is_placed r && has_one_tail r) (is_keyed r) p.0 in
+    let t = and_parts (is_placed r) (has_one_tail r) q.0 in
     record { placed = t.0; single = t.1; keyed = q.1; short = p.1 }
 
 -- how many bytes its parts but the prefixes have at most
-pub few : (r : Row) (narrow : Bool) → Shaped r → tail_length r narrow + cond (has_modrm r) 6 0 + cond (nat_lt r.high 2048) 1 2 ≤ 11
-few r true s = leb-true _ 11 (and_parts (is_few r false) (is_few r true) s.short).1
-few r false s = leb-true _ 11 (and_parts (is_few r false) (is_few r true) s.short).0
+pub few_bytes : (r : Row) (narrow : Bool) → Shaped r → tail_length r narrow + cond (has_modrm r) 6 0 + cond (nat_lt r.high 2048) 1 2 ≤ 11
+few_bytes r true s = leb-true _ 11 (and_parts (is_few r false) (is_few r true) s.short).1
+few_bytes r false s = leb-true _ 11 (and_parts (is_few r false) (is_few r true) s.short).0
 
 -- a row with a ModRM byte has no operand in the opcode's low three bits
 high_by : (is_low with : Bool) (x y : Bool) → cond is_low (x && not with) y ≡ true → with ≡ true → is_low ≡ false
@@ -122,35 +122,35 @@ third_is r h =
 abbrev pub Present : Option Arg → Type 0
 Present o = (v : Arg) × (o ≡ Some v)
 
-pub present : (f : Fields) (w : Width) (bs : List ℕ) (x : Operand) → is_absent x ≡ false → (is_place x ≡ true → Present f.place) → Present (operand_value f w bs x)
-present f w bs Absent h p = cc
-present f w bs E h p = p refl
-present f w bs M h p = p refl
-present f w bs R h p = p refl
-present f w bs G h p = (_, refl)
-present f w bs S h p = (_, refl)
-present f w bs Low h p = (_, refl)
-present f w bs I h p = (_, refl)
-present f w bs Ib h p = (_, refl)
-present f w bs Iw h p = (_, refl)
-present f w bs SignedByte h p = (_, refl)
-present f w bs Jb h p = (_, refl)
-present f w bs J h p = (_, refl)
-present f w bs O h p = (_, refl)
-present f w bs A h p = (_, refl)
-present f w bs X h p = (_, refl)
-present f w bs Table h p = (_, refl)
-present f w bs Eax h p = (_, refl)
-present f w bs Cl h p = (_, refl)
-present f w bs Dx h p = (_, refl)
-present f w bs One h p = (_, refl)
-present f w bs Es h p = (_, refl)
-present f w bs Cs h p = (_, refl)
-present f w bs Ss h p = (_, refl)
-present f w bs Ds h p = (_, refl)
-present f w bs Fs h p = (_, refl)
-present f w bs Gs h p = (_, refl)
-present f w bs Cr0 h p = (_, refl)
+pub present_operand : (f : Fields) (w : Width) (bs : List ℕ) (x : Operand) → is_absent x ≡ false → (is_place x ≡ true → Present f.place) → Present (operand_value f w bs x)
+present_operand f w bs Absent h p = cc
+present_operand f w bs E h p = p refl
+present_operand f w bs M h p = p refl
+present_operand f w bs R h p = p refl
+present_operand f w bs G h p = (_, refl)
+present_operand f w bs S h p = (_, refl)
+present_operand f w bs Low h p = (_, refl)
+present_operand f w bs I h p = (_, refl)
+present_operand f w bs Ib h p = (_, refl)
+present_operand f w bs Iw h p = (_, refl)
+present_operand f w bs SignedByte h p = (_, refl)
+present_operand f w bs Jb h p = (_, refl)
+present_operand f w bs J h p = (_, refl)
+present_operand f w bs O h p = (_, refl)
+present_operand f w bs A h p = (_, refl)
+present_operand f w bs X h p = (_, refl)
+present_operand f w bs Table h p = (_, refl)
+present_operand f w bs Eax h p = (_, refl)
+present_operand f w bs Cl h p = (_, refl)
+present_operand f w bs Dx h p = (_, refl)
+present_operand f w bs One h p = (_, refl)
+present_operand f w bs Es h p = (_, refl)
+present_operand f w bs Cs h p = (_, refl)
+present_operand f w bs Ss h p = (_, refl)
+present_operand f w bs Ds h p = (_, refl)
+present_operand f w bs Fs h p = (_, refl)
+present_operand f w bs Gs h p = (_, refl)
+present_operand f w bs Cr0 h p = (_, refl)
 
 -- the middle bits are those of the operand that has them
 pub middle_said : (f : Fields) (w : Width) (bs : List ℕ) (x : Operand) (v : Arg) → is_middle x ≡ true → f.middle < 8 → operand_value f w bs x ≡ Some v → register v ≡ f.middle

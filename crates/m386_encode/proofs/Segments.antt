@@ -11,14 +11,14 @@ use Rattle.m386_opmap.specs.declared.row.Operand.TheVariants.{Absent, E, M, R, G
 use Rattle.m386_opmap.specs.Forms.{Form, absent, register, based, indexed}
 use Rattle.m386_opmap.specs.Operands.{operand_value, is_memory}
 use Rattle.m386_opmap.specs.Prefix.{last_of, later, segment_named}
-use Rattle.m386_encode.specs.Candidates.{segment}
+use Rattle.m386_encode.specs.Candidates.{named_segment}
 use Rattle.m386_encode.proofs.Values.{is_plain}
-use Rattle.m386_encode.proofs.Marks.{IsSegment, named}
+use Rattle.m386_encode.proofs.Marks.{IsSegment, segment_is_named}
 use Rattle.m386_encode.proofs.RowParts.{Names}
 use Rattle.m386_encode.proofs.Tails.{items}
 
-seg_first : (seg : Option ℕ) (a : Option Arg) (rest : List Arg) → Names seg a → is_memory a ≡ true → segment (option_to_list a ++ rest) ≡ seg
-unfolding segment
+seg_first : (seg : Option ℕ) (a : Option Arg) (rest : List Arg) → Names seg a → is_memory a ≡ true → named_segment (option_to_list a ++ rest) ≡ seg
+unfolding named_segment
 seg_first seg None rest n h = cc
 seg_first seg (Some (Reg x)) rest n h = cc
 seg_first seg (Some (Seg x)) rest n h = cc
@@ -28,8 +28,8 @@ seg_first seg (Some (Mem a)) rest n h = n
 seg_first seg (Some (Rel x)) rest n h = cc
 seg_first seg (Some (Far x y)) rest n h = cc
 
-seg_next : (P : Option ℕ → Type 0) (seg : Option ℕ) (a : Option Arg) (rest : List Arg) → Names seg a → P seg → P (segment rest) → P (segment (option_to_list a ++ rest))
-unfolding segment
+seg_next : (P : Option ℕ → Type 0) (seg : Option ℕ) (a : Option Arg) (rest : List Arg) → Names seg a → P seg → P (named_segment rest) → P (named_segment (option_to_list a ++ rest))
+unfolding named_segment
 seg_next P seg None rest n s e = e
 seg_next P seg (Some (Reg x)) rest n s e = e
 seg_next P seg (Some (Seg x)) rest n s e = e
@@ -42,16 +42,16 @@ seg_next P seg (Some (Far x y)) rest n s e = e
 right : (a b c : Option Arg) → items a b c ≡ option_to_list a ++ (option_to_list b ++ option_to_list c)
 right a b c = append_assoc (option_to_list a) (option_to_list b) (option_to_list c)
 
-pub seg_of_first : (seg : Option ℕ) (a b c : Option Arg) → Names seg a → is_memory a ≡ true → segment (items a b c) ≡ seg
-seg_of_first seg a b c n h = ap segment (right a b c) ∙ seg_first seg a (option_to_list b ++ option_to_list c) n h
+pub seg_of_first : (seg : Option ℕ) (a b c : Option Arg) → Names seg a → is_memory a ≡ true → named_segment (items a b c) ≡ seg
+seg_of_first seg a b c n h = ap named_segment (right a b c) ∙ seg_first seg a (option_to_list b ++ option_to_list c) n h
 
-pub seg_of_second : (seg : Option ℕ) (a b c : Option Arg) → Names seg a → Names seg b → is_memory b ≡ true → segment (items a b c) ≡ seg
+pub seg_of_second : (seg : Option ℕ) (a b c : Option Arg) → Names seg a → Names seg b → is_memory b ≡ true → named_segment (items a b c) ≡ seg
 seg_of_second seg a b c n m h =
     let P : Option ℕ → Type 0 = λ s. s ≡ seg in
-    ap segment (right a b c) ∙ seg_next P seg a (option_to_list b ++ option_to_list c) n refl (seg_first seg b (option_to_list c) m h)
+    ap named_segment (right a b c) ∙ seg_next P seg a (option_to_list b ++ option_to_list c) n refl (seg_first seg b (option_to_list c) m h)
 
-seg_last : (P : Option ℕ → Type 0) (seg : Option ℕ) (c : Option Arg) → Names seg c → P None → P seg → P (segment (option_to_list c))
-unfolding segment
+seg_last : (P : Option ℕ → Type 0) (seg : Option ℕ) (c : Option Arg) → Names seg c → P None → P seg → P (named_segment (option_to_list c))
+unfolding named_segment
 seg_last P seg None n e s = e
 seg_last P seg (Some (Reg x)) n e s = e
 seg_last P seg (Some (Seg x)) n e s = e
@@ -62,9 +62,9 @@ seg_last P seg (Some (Rel x)) n e s = e
 seg_last P seg (Some (Far x y)) n e s = e
 
 -- it is none, or the one that they name
-pub seg_is : (P : Option ℕ → Type 0) (seg : Option ℕ) (a b c : Option Arg) → Names seg a → Names seg b → Names seg c → P None → P seg → P (segment (items a b c))
+pub seg_is : (P : Option ℕ → Type 0) (seg : Option ℕ) (a b c : Option Arg) → Names seg a → Names seg b → Names seg c → P None → P seg → P (named_segment (items a b c))
 seg_is P seg a b c n m k e s =
-    subst P (sym (ap segment (right a b c))) (seg_next P seg a (option_to_list b ++ option_to_list c) n s (seg_next P seg b (option_to_list c) m s (seg_last P seg c k e s)))
+    subst P (sym (ap named_segment (right a b c))) (seg_next P seg a (option_to_list b ++ option_to_list c) n s (seg_next P seg b (option_to_list c) m s (seg_last P seg c k e s)))
 
 later_is : (x y : Option ℕ) → IsSegment x → IsSegment y → IsSegment (later x y)
 later_is x None a b = a
@@ -72,7 +72,7 @@ later_is x (Some n) a b = b
 
 pub last_is : (ps : List ℕ) → IsSegment (last_of segment_named ps)
 last_is [] = tt
-last_is (p ∷ ps) = later_is (segment_named p) (last_of segment_named ps) (named p) (last_is ps)
+last_is (p ∷ ps) = later_is (segment_named p) (last_of segment_named ps) (segment_is_named p) (last_is ps)
 
 -- the same of all that a ModRM byte names, under the same segment register or of no memory
 pub form_under : (seg other : Option ℕ) (bs : List ℕ) (mid : ℕ) (place : Option Arg) (memory : Bool) → is_memory place ≡ memory → Form seg bs mid place → (memory ≡ true → seg ≡ other) → Form other bs mid place

@@ -11,10 +11,10 @@ use Rattle.m386_opmap.specs.declared.row.Operand.{Operand}
 use Rattle.m386_opmap.specs.declared.row.Operand.TheVariants.{Absent, E, M, R, G, S, Low, I, Ib, Iw, SignedByte, Jb, J, O, A, X, Table, Eax, Cl, Dx, One, Es, Cs, Ss, Ds, Fs, Gs, Cr0}
 use Rattle.m386_opmap.specs.declared.row.Row.{Row}
 use Rattle.m386_opmap.specs.Operands.{operand_value, operand_length, has_modrm}
-use Rattle.m386_encode.specs.Candidates.{register, is_middle, is_low, is_place, opcode, middle, place_bytes, form_bytes, operand_bytes, tail_bytes}
+use Rattle.m386_encode.specs.Candidates.{register, is_middle, is_low, is_place, opcode, middle_of, place_bytes, form_bytes, operand_bytes, tail_bytes}
 use Rattle.m386_encode.proofs.Values.{is_plain, Bytes}
 use Rattle.m386_encode.proofs.Tails.{items, item_first, item_second, item_third, IsBytes, tail_same, no_bytes}
-use Rattle.m386_encode.proofs.RowParts.{is_absent, is_tail, is_placed, is_single, Present, present, middle_said, low_said, place_said}
+use Rattle.m386_encode.proofs.RowParts.{is_absent, is_tail, is_placed, has_one_tail, Present, present_operand, middle_said, low_said, place_said}
 
 -- what is there is an operand
 not_absent : (t : Operand → Bool) → t Absent ≡ false → (x : Operand) → t x ≡ true → is_absent x ≡ false
@@ -161,10 +161,10 @@ module _ (f : Fields) (w : Width) (bs : List ℕ) (r : Row) (sh : is_placed r �
   there_second h = some_place f.place (sym wanted ∙ holds_second (has_modrm r) (is_place r.first) (is_place r.second) last h)
 
   value_first : is_absent r.first ≡ false → Present (operand_value f w bs r.first)
-  value_first h = present f w bs r.first h there_first
+  value_first h = present_operand f w bs r.first h there_first
 
   value_second : is_absent r.second ≡ false → Present (operand_value f w bs r.second)
-  value_second h = present f w bs r.second h there_second
+  value_second h = present_operand f w bs r.second h there_second
 
   at_first : (v : Arg) → operand_value f w bs r.first ≡ Some v → get_or its 0 args.Cr0 ≡ v
   at_first v e = item_first _ _ _ v e
@@ -179,16 +179,16 @@ module _ (f : Fields) (w : Width) (bs : List ℕ) (r : Row) (sh : is_placed r �
   order_third h = before (is_absent r.second) (is_absent r.third) (and_parts TA TB (and_parts (TA && TB) TC (and_parts ((TA && TB) && TC) TD sh).0).0).1 h
 
   -- the middle bits, where an operand has them
-  pub middle_taken : f.middle < 8 → is_middle r.first || is_middle r.second ≡ true → middle r its ≡ f.middle
-  unfolding middle
+  pub middle_taken : f.middle < 8 → is_middle r.first || is_middle r.second ≡ true → middle_of r its ≡ f.middle
+  unfolding middle_of
   middle_taken k h =
       pick (is_middle r.first) (is_middle r.second) _ _ _ f.middle
       (λ e. let v = value_first (not_absent is_middle refl r.first e) in ap register (at_first v.0 v.1) ∙ middle_said f w bs r.first v.0 e k v.1)
       (λ e. let n = not_absent is_middle refl r.second e in let v = value_second n in ap register (at_second (order n) v.0 v.1) ∙ middle_said f w bs r.second v.0 e k v.1)
       h
 
-  pub middle_free : is_middle r.first || is_middle r.second ≡ false → middle r its ≡ r.low % 8
-  unfolding middle
+  pub middle_free : is_middle r.first || is_middle r.second ≡ false → middle_of r its ≡ r.low % 8
+  unfolding middle_of
   middle_free h = pick_none (is_middle r.first) (is_middle r.second) _ _ _ h
 
   -- the opcode, where an operand has its low bits
@@ -213,12 +213,12 @@ module _ (f : Fields) (w : Width) (bs : List ℕ) (r : Row) (sh : is_placed r �
   place_lacks h = not-true (is_place r.first || is_place r.second) (sym (ap (λ b. cond b (is_place r.first || is_place r.second) (not (is_place r.first || is_place r.second))) h) ∙ last)
 
   -- the bytes of what the ModRM byte names
-  pub form_taken : (mode : ℕ) (p : Arg) → f.place ≡ Some p → has_modrm r ≡ true → form_bytes r mode its ≡ place_bytes (middle r its) mode p
+  pub form_taken : (mode : ℕ) (p : Arg) → f.place ≡ Some p → has_modrm r ≡ true → form_bytes r mode its ≡ place_bytes (middle_of r its) mode p
   unfolding form_bytes
   form_taken mode p is h =
-      pick (is_place r.first) (is_place r.second) _ _ _ (place_bytes (middle r its) mode p)
-      (λ e. ap (λ x. place_bytes (middle r its) mode x) (at_first p (place_said f w bs r.first e ∙ is)))
-      (λ e. let n = not_absent is_place refl r.second e in ap (λ x. place_bytes (middle r its) mode x) (at_second (order n) p (place_said f w bs r.second e ∙ is)))
+      pick (is_place r.first) (is_place r.second) _ _ _ (place_bytes (middle_of r its) mode p)
+      (λ e. ap (λ x. place_bytes (middle_of r its) mode x) (at_first p (place_said f w bs r.first e ∙ is)))
+      (λ e. let n = not_absent is_place refl r.second e in ap (λ x. place_bytes (middle_of r its) mode x) (at_second (order n) p (place_said f w bs r.second e ∙ is)))
       (place_stands h)
 
   pub form_free : (mode : ℕ) → has_modrm r ≡ false → form_bytes r mode its ≡ []
@@ -226,7 +226,7 @@ module _ (f : Fields) (w : Width) (bs : List ℕ) (r : Row) (sh : is_placed r �
   form_free mode h = pick_none (is_place r.first) (is_place r.second) _ _ _ (place_lacks h)
 
   value_third : is_absent r.third ≡ false → Present (operand_value f w bs r.third)
-  value_third h = present f w bs r.third h (λ e. let n : not (is_place r.third) ≡ true = (and_parts _ _ (and_parts _ _ (and_parts _ _ third).0).0).0 in cc)
+  value_third h = present_operand f w bs r.third h (λ e. let n : not (is_place r.third) ≡ true = (and_parts _ _ (and_parts _ _ (and_parts _ _ third).0).0).0 in cc)
 
   tail_by : (x : Operand) (v : Arg) → length bs ≡ operand_length w x → Bytes bs → operand_value f w bs x ≡ Some v → operand_bytes (operand_length w x) v ≡ bs
   tail_by x v h b e = let P : Option Arg → Type 0 = λ o. IsBytes (operand_length w x) o bs in subst P e (tail_same f w bs x h b)
@@ -235,7 +235,7 @@ module _ (f : Fields) (w : Width) (bs : List ℕ) (r : Row) (sh : is_placed r �
   tail_nothing v h = no_bytes v ∙ sym (empty bs h)
 
   -- the bytes behind opcode and ModRM
-  pub tail_taken : is_single r ≡ true → length bs ≡ operand_length w r.first + operand_length w r.second + operand_length w r.third → Bytes bs → tail_bytes r w its ≡ bs
+  pub tail_taken : has_one_tail r ≡ true → length bs ≡ operand_length w r.first + operand_length w r.second + operand_length w r.third → Bytes bs → tail_bytes r w its ≡ bs
   unfolding tail_bytes
   tail_taken single h b =
       pick_tail (operand_length w r.first == 0) (operand_length w r.second == 0) _ _ _ bs

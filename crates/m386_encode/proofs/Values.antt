@@ -7,7 +7,7 @@ use Rattle.m386_opmap.specs.declared.row.Operand.{Operand}
 use Rattle.m386_opmap.specs.declared.row.Operand.TheVariants.{Absent, E, M, R, G, S, Low, I, Ib, Iw, SignedByte, Jb, J, O, A, X, Table, Eax, Cl, Dx, One, Es, Cs, Ss, Ds, Fs, Gs, Cr0}
 use Rattle.m386_opmap.specs.Forms.{number, extended}
 use Rattle.m386_opmap.specs.Operands.{operand_value}
-use Rattle.m386_encode.specs.Candidates.{lowest, is_middle, is_low}
+use Rattle.m386_encode.specs.Candidates.{low_bytes, is_middle, is_low}
 
 -- whether an operand is memory that no ModRM byte names
 abbrev pub is_plain : Operand → Bool
@@ -52,22 +52,22 @@ value_same f g w tail Cr0 p m o s = refl
 abbrev pub Bytes : List ℕ → Type 0
 Bytes bs = (k : ℕ) → k < length bs → get_or bs k 0 < 256
 
-pub later : (b : ℕ) (bs : List ℕ) → Bytes (b ∷ bs) → Bytes bs
-later b bs f k h = f (suc k) (omega arith)
+pub later_bytes : (b : ℕ) (bs : List ℕ) → Bytes (b ∷ bs) → Bytes bs
+later_bytes b bs f k h = f (suc k) (omega arith)
 
 -- the lowest bytes of the number that bytes make are these bytes
-pub lowest_number : (bs : List ℕ) → Bytes bs → lowest (length bs) (number bs) ≡ bs
-unfolding lowest number
+pub lowest_number : (bs : List ℕ) → Bytes bs → low_bytes (length bs) (number bs) ≡ bs
+unfolding low_bytes number
 lowest_number [] f = refl
 lowest_number (b ∷ bs) f =
     let byte : b < 256 = f 0 (omega arith) in
     let first : (b + 256 * number bs) % 256 ≡ b = omega arith in
     let rest : (b + 256 * number bs) / 256 ≡ number bs = omega arith in
-    rw (first, rest, lowest_number bs (later b bs f)) refl
+    rw (first, rest, lowest_number bs (later_bytes b bs f)) refl
 
 -- a byte with a sign above it
-pub lowest_signed : (w : Width) (b : ℕ) → b < 256 → lowest 1 (extended W8 w (number (b ∷ []))) ≡ b ∷ []
-unfolding lowest number extended
+pub lowest_signed : (w : Width) (b : ℕ) → b < 256 → low_bytes 1 (extended W8 w (number (b ∷ []))) ≡ b ∷ []
+unfolding low_bytes number extended
 lowest_signed W8 b h = grind (arith)
 lowest_signed W16 b h = grind (arith)
 lowest_signed W32 b h = grind (arith)

@@ -8,7 +8,7 @@ use Rattle.m386_opmap.specs.declared.op.Rep.TheVariants.{Once}
 use Rattle.m386_opmap.specs.declared.row.Row.{Row}
 use Rattle.m386_opmap.specs.Operands.{operand_value, has_modrm, width_of, operation, is_string}
 use Rattle.m386_opmap.specs.Rows.{Covers}
-use Rattle.m386_encode.specs.Candidates.{is_middle, is_low, opcode, middle}
+use Rattle.m386_encode.specs.Candidates.{is_middle, is_low, opcode, middle_of}
 use Rattle.m386_encode.specs.Candidates.{key_bytes}
 use Rattle.m386_opmap.specs.Spelling.{opcode_bytes}
 use Rattle.m386_encode.specs.Order.{is_before, is_less}
@@ -34,14 +34,14 @@ same_rep false rep = refl
 -- the candidate's key with a ModRM byte
 pub key_selected : (f : Fields) (w : _) (bs : List ℕ) (r : Row) (sh : is_placed r ≡ true) (wanted : has_modrm r ≡ is_some f.place) → r.low / 8 ≡ r.high / 8 → r.low ≤ r.high → f.middle < 8 →
     is_low r.first || is_low r.second ≡ false → Covers r (8 * f.opcode + f.middle) →
-    (opcode r (its f w bs r sh wanted) ≡ f.opcode) × (middle r (its f w bs r sh wanted) ≤ f.middle) × (middle r (its f w bs r sh wanted) < 8) × Covers r (8 * opcode r (its f w bs r sh wanted) + middle r (its f w bs r sh wanted))
+    (opcode r (its f w bs r sh wanted) ≡ f.opcode) × (middle_of r (its f w bs r sh wanted) ≤ f.middle) × (middle_of r (its f w bs r sh wanted) < 8) × Covers r (8 * opcode r (its f w bs r sh wanted) + middle_of r (its f w bs r sh wanted))
 key_selected f w bs r sh wanted same rise k n c =
     let o : opcode r (its f w bs r sh wanted) ≡ r.low / 8 = opcode_free f w bs r sh wanted n in
     let is : r.low / 8 ≡ f.opcode = omega (arith, c.0, c.1, same) in
     elim (cases_Bool (is_middle r.first || is_middle r.second)) [
-      | inl e ↦ (let m : middle r (its f w bs r sh wanted) ≡ f.middle = middle_taken f w bs r sh wanted k e in
+      | inl e ↦ (let m : middle_of r (its f w bs r sh wanted) ≡ f.middle = middle_taken f w bs r sh wanted k e in
           (o ∙ is, omega (arith, m), omega (arith, m, k), (omega (arith, o, is, m, c.0), omega (arith, o, is, m, c.1))))
-      | inr e ↦ (let m : middle r (its f w bs r sh wanted) ≡ r.low % 8 = middle_free f w bs r sh wanted e in
+      | inr e ↦ (let m : middle_of r (its f w bs r sh wanted) ≡ r.low % 8 = middle_free f w bs r sh wanted e in
           (o ∙ is, omega (arith, m, is, c.0), omega (arith, m), (omega (arith, o, m), omega (arith, o, m, rise))))
     ]
 

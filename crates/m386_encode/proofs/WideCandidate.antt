@@ -17,25 +17,25 @@ use Rattle.m386_opmap.specs.declared.name.Name.TheVariants.{Nop}
 use Rattle.m386_opmap.specs.declared.row.Operand.TheVariants.{Absent}
 use Rattle.m386_opmap.specs.declared.row.Row.{Row}
 use Rattle.m386_opmap.specs.declared.row.Size.TheVariants.{Double}
-use Rattle.m386_opmap.specs.Forms.{Form, absent, register, based, indexed, top, low, displacement_length, base_of}
+use Rattle.m386_opmap.specs.Forms.{Form, absent, register, based, indexed, top_bits, low, displacement_length, base_of}
 use Rattle.m386_opmap.specs.Opcodes.{opcode_rows}
 use Rattle.m386_opmap.specs.Operands.{has_modrm, operation, width_of}
 use Rattle.m386_opmap.specs.Prefix.{is_prefix, prefixes_of}
-use Rattle.m386_opmap.specs.Rows.{begins, covers, row_at}
+use Rattle.m386_opmap.specs.Rows.{begins, covers_key, row_at}
 use Rattle.m386_opmap.specs.Spelling.{Spells, opcode_bytes}
 use Rattle.m386_opmap.proofs.Complete.{form_middle}
-use Rattle.m386_opmap.proofs.Lawful.{IsOpcode, byte, opcodes_lawful, lawful_row, selected, begins_from, begins_like, begun, opcode_of_row}
+use Rattle.m386_opmap.proofs.Lawful.{IsOpcode, byte, opcodes_lawful, lawful_row, selected, begins_from, begins_like, begins_is_begun, opcode_of_row}
 use Rattle.m386_opmap.proofs.OneRow.{Same, same_parts}
 use Rattle.m386_opmap.proofs.Outcomes.{fields_at}
 use Rattle.m386_opmap.proofs.Table.{rising_bounds, one_covers_opcode, found_is}
-use Rattle.m386_encode.specs.Candidates.{candidate, prefixes, segment, key_bytes, opcode, middle, register as number_of, is_low, is_middle, is_place, mode_of, base, address_bytes, place_bytes, form_bytes, tail_bytes}
+use Rattle.m386_encode.specs.Candidates.{candidate, prefixes, named_segment, key_bytes, opcode, middle_of, register as number_of, is_low, is_middle, is_place, mode_of, base, address_bytes, place_bytes, form_bytes, tail_bytes}
 use Rattle.m386_encode.specs.Wide.{is_full, HasWholeDisplacement, IsWide}
 use Rattle.m386_encode.proofs.Fuller.{alike, alike_true}
 use Rattle.m386_encode.proofs.Marks.{IsSegment}
 use Rattle.m386_encode.proofs.Named.{operands, seg_either, said_is}
 use Rattle.m386_encode.proofs.Octets.{base_small, mode_small}
 use Rattle.m386_encode.proofs.Reduced.{passing, number_of_opcode}
-use Rattle.m386_encode.proofs.RowParts.{Shaped, shaped}
+use Rattle.m386_encode.proofs.RowParts.{Shaped, has_shape}
 use Rattle.m386_encode.proofs.Taken.{some_place, place_taken}
 use Rattle.m386_encode.proofs.Whole.{key_bytes_are}
 
@@ -49,7 +49,7 @@ first_by true y z u x more xs ys e = inl cc
 first_by false y z u x more xs ys e = inr cc
 
 -- the top bits of the first byte of an address are the mode
-first_top : (m x : ℕ) (a : Addr) (more xs ys : List ℕ) → m < 8 → (address_bytes m 2 a ++ more) ++ xs ≡ x ∷ ys → top x ≡ mode_of a.base 2
+first_top : (m x : ℕ) (a : Addr) (more xs ys : List ℕ) → m < 8 → (address_bytes m 2 a ++ more) ++ xs ≡ x ∷ ys → top_bits x ≡ mode_of a.base 2
 unfolding address_bytes
 first_top m x a more xs ys h e =
     let b = base_small a.base in
@@ -73,8 +73,8 @@ displaced : (seg : Option ℕ) (bs : List ℕ) (mid : ℕ) (place : Option Arg) 
 unfolding place_bytes
 displaced seg _ _ _ m xs ys h e absent = tt
 displaced seg _ _ _ m xs ys h e (register n t) = tt
-displaced seg _ _ _ m xs ys h e (based n ds t k l) = l ∙ four (top n) (low n) (first_top m n _ _ xs (ds ++ ys) h e)
-displaced seg _ _ _ m xs ys h e (indexed n s ds t k l) = l ∙ four (top n) (low s) (first_top m n _ _ xs (s ∷ (ds ++ ys)) h e)
+displaced seg _ _ _ m xs ys h e (based n ds t k l) = l ∙ four (top_bits n) (low n) (first_top m n _ _ xs (ds ++ ys) h e)
+displaced seg _ _ _ m xs ys h e (indexed n s ds t k l) = l ∙ four (top_bits n) (low s) (first_top m n _ _ xs (s ∷ (ds ++ ys)) h e)
 
 displaced_absent : (seg : Option ℕ) (bs : List ℕ) (mid : ℕ) (place : Option Arg) → is_some place ≡ false → (form : Form seg bs mid place) → HasWholeDisplacement form
 displaced_absent seg _ _ _ h absent = tt
@@ -96,8 +96,8 @@ middle_by true b i j k h g f = h
 middle_by false true i j k h g f = g
 middle_by false false i j k h g f = f
 
-middle_small : (r : Row) (xs : List Arg) → middle r xs < 8
-unfolding middle
+middle_small : (r : Row) (xs : List Arg) → middle_of r xs < 8
+unfolding middle_of
 middle_small r xs = middle_by (is_middle r.first) (is_middle r.second) _ _ _ (number_small (get_or xs 0 args.Cr0)) (number_small (get_or xs 1 args.Cr0)) (omega arith)
 
 -- the opcodes of a row whose operand stands in them: eight, or but the first, which is NOP
@@ -174,19 +174,19 @@ nop = record { low = 0x480; high = 0x487; name = Nop; size = Double; first = Abs
 
 nop_listed : Contains opcode_rows nop
 unfolding row_at
-nop_listed = (found_is (covers 0x480) opcode_rows nop refl).listed
+nop_listed = (found_is (covers_key 0x480) opcode_rows nop refl).listed
 
 -- one opcode, in which rows with a ModRM byte lie
 one_opcode : (r : Row) (o : ℕ) → Contains opcode_rows r → has_modrm r ≡ true → begins false o r ≡ true → r.low / 8 ≡ o
 one_opcode r o c h b =
     let p = and_parts _ _ (selected r (lawful_row opcode_rows r opcodes_lawful c) h) in
     let e = eqb-true (r.low / 8) (r.high / 8) p.0 in
-    let i = begun false o r b in
+    let i = begins_is_begun false o r b in
     omega (arith, e, i.low, i.high)
 
 module _ (op : Op) (r : Row) (narrow : Bool) (listed : Contains opcode_rows r) (full : is_full r ≡ true) (s : Spells op (candidate op r narrow 2)) where
   shape : Shaped s.row
-  shape = shaped s.row s.listed
+  shape = has_shape s.row s.listed
 
   -- the operands, as the spelling has them
   abbrev xs : List Arg
@@ -196,9 +196,9 @@ module _ (op : Op) (r : Row) (narrow : Bool) (listed : Contains opcode_rows r) (
   unfolding operation
   xs_are = ap (λ (x : Op). x.args.items) s.spelled
 
-  segment_is : IsSegment (segment op.args.items)
+  segment_is : IsSegment (named_segment op.args.items)
   segment_is =
-      let P : List Arg → Type 0 = λ x. IsSegment (segment x) in
+      let P : List Arg → Type 0 = λ x. IsSegment (named_segment x) in
       subst P (sym xs_are) (seg_either s.row s.prefixes s.opcode s.modrm s.tail s.middle s.place s.listed shape s.form s.wanted IsSegment tt (said_is s.prefixes))
 
   abbrev o : ℕ
@@ -209,7 +209,7 @@ module _ (op : Op) (r : Row) (narrow : Bool) (listed : Contains opcode_rows r) (
 
   prefixes_are : All (λ b. is_prefix b ≡ true) (prefixes op narrow)
   unfolding prefixes
-  prefixes_are = (passing (segment op.args.items) narrow op.lock op.rep segment_is).prefixes
+  prefixes_are = (passing (named_segment op.args.items) narrow op.lock op.rep segment_is).prefixes
 
   its_opcode : IsOpcode s.opcode
   its_opcode = opcode_of_row s.opcode s.row (lawful_row opcode_rows s.row opcodes_lawful s.listed) (begins_from false s.opcode s.middle s.row (form_middle s.form) s.covered refl)
@@ -231,7 +231,7 @@ module _ (op : Op) (r : Row) (narrow : Bool) (listed : Contains opcode_rows r) (
   unfolding form_bytes
   wide_with with k e =
       let at = some_place s.place (sym s.wanted ∙ with) in
-      let m : ℕ = middle r op.args.items in
+      let m : ℕ = middle_of r op.args.items in
       let small : m < 8 = middle_small r op.args.items in
       let f : Fields = fields_at s.prefixes s.opcode s.middle s.place in
       let w : Width = width_of s.row.size (prefixes_of s.prefixes).narrow in

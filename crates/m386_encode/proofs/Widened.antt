@@ -19,7 +19,7 @@ use Rattle.m386_opmap.specs.Spelling.{Spells, opcode_bytes}
 use Rattle.m386_opmap.proofs.Complete.{form_middle}
 use Rattle.m386_opmap.proofs.Lawful.{IsOpcode, byte, pair, begins_from, opcode_of_row, lawful_row, opcodes_lawful}
 use Rattle.m386_opmap.proofs.Outcomes.{fields_at}
-use Rattle.m386_opmap.proofs.Sound.{AreBytes, front_bytes, back_bytes}
+use Rattle.m386_opmap.proofs.Sound.{AllAreBytes, front_bytes, back_bytes}
 use Rattle.m386_encode.specs.Wide.{is_full, IsWide}
 use Rattle.m386_encode.proofs.Fuller.{fuller, full_row, full_opcode, is_short, is_kept, is_turned, full_tail, value_full, value_kept, length_full, length_kept, full_are, Widens, widens}
 use Rattle.m386_encode.proofs.InFull.{Whole, form_whole}
@@ -102,19 +102,19 @@ pub record WideOf (op : Op) : Type 0 where
   pub bytes : List ℕ
   pub wide : IsWide op bytes
 
-are_from : (bs : List ℕ) → Bytes bs → AreBytes bs
+are_from : (bs : List ℕ) → Bytes bs → AllAreBytes bs
 are_from bs f = All-from_get_or (λ b. b < 256) bs 0 f
 
-bytes_from : (bs : List ℕ) → AreBytes bs → Bytes bs
+bytes_from : (bs : List ℕ) → AllAreBytes bs → Bytes bs
 bytes_from bs f k h = All-get_or (λ b. b < 256) bs k 0 h f
 
-opcode_are : (o : ℕ) → IsOpcode o → AreBytes (opcode_bytes o)
+opcode_are : (o : ℕ) → IsOpcode o → AllAreBytes (opcode_bytes o)
 opcode_are o (byte h p q) = rw (lt-ltb o 256 h) (All-cons (λ b. b < 256) o [] h (All-nil (λ b. b < 256)))
 opcode_are o (pair h k) =
     let long : 256 ≤ o = omega arith in
     rw (le-ltb o 256 long) (All-cons (λ b. b < 256) 0x0f ((o - 0xf00) ∷ []) (omega arith) (All-cons (λ b. b < 256) (o - 0xf00) [] (omega arith) (All-nil (λ b. b < 256))))
 
-wide_by : (r : Row) (ps : List ℕ) (o mid : ℕ) (place : Option Arg) (tail : List ℕ) → Contains opcode_rows r → is_full r ≡ true → All (λ p. is_prefix p ≡ true) ps → AreBytes ps →
+wide_by : (r : Row) (ps : List ℕ) (o mid : ℕ) (place : Option Arg) (tail : List ℕ) → Contains opcode_rows r → is_full r ≡ true → All (λ p. is_prefix p ≡ true) ps → AllAreBytes ps →
     Whole (prefixes_of ps).seg mid place → has_modrm r ≡ is_some place → Covers r (8 * o + mid) → suits r (prefixes_of ps).lock (is_memory place) ≡ true →
     length tail ≡ tail_length r (prefixes_of ps).narrow → Bytes tail → WideOf (operation r (fields_at ps o mid place) tail)
 wide_by r ps o mid place tail listed full prefixes are form wanted covered suited whole behind =
@@ -148,13 +148,13 @@ wide_by r ps o mid place tail listed full prefixes are form wanted covered suite
     }
 
 module _ (op : Op) (bytes : List ℕ) (s : Spells op bytes) where
-  all : AreBytes (s.prefixes ++ (opcode_bytes s.opcode ++ (s.modrm ++ s.tail)))
-  all = let P : List ℕ → Type 0 = AreBytes in subst P s.parts s.are_bytes
+  all : AllAreBytes (s.prefixes ++ (opcode_bytes s.opcode ++ (s.modrm ++ s.tail)))
+  all = let P : List ℕ → Type 0 = AllAreBytes in subst P s.parts s.are_bytes
 
-  before : AreBytes s.prefixes
+  before : AllAreBytes s.prefixes
   before = front_bytes s.prefixes (opcode_bytes s.opcode ++ (s.modrm ++ s.tail)) all
 
-  behind : AreBytes (s.modrm ++ s.tail)
+  behind : AllAreBytes (s.modrm ++ s.tail)
   behind = back_bytes (opcode_bytes s.opcode) (s.modrm ++ s.tail) (back_bytes s.prefixes (opcode_bytes s.opcode ++ (s.modrm ++ s.tail)) all)
 
   tail_are : Bytes s.tail

@@ -15,19 +15,19 @@ use Rattle.m386_opmap.specs.Forms.{displacement_length}
 use Rattle.m386_opmap.specs.Operands.{operand_length}
 
 -- so many bytes of a number, the lowest first
-unfoldable pub lowest : ℕ → ℕ → List ℕ
-lowest zero n = []
-lowest (suc count) n = n % 256 ∷ lowest count (n / 256)
+unfoldable pub low_bytes : ℕ → ℕ → List ℕ
+low_bytes zero n = []
+low_bytes (suc count) n = n % 256 ∷ low_bytes count (n / 256)
 
 -- the operand at a place of a list
 abbrev pub operand : ℕ → List Arg → Arg
 operand i items = get_or items i args.Cr0
 
 -- the segment register that the first memory operand names
-unfoldable pub segment : List Arg → Option ℕ
-segment [] = None
-segment (Mem a ∷ items) = a.seg
-segment (item ∷ items) = segment items
+unfoldable pub named_segment : List Arg → Option ℕ
+named_segment [] = None
+named_segment (Mem a ∷ items) = a.seg
+named_segment (item ∷ items) = named_segment items
 
 -- the prefix of a segment register
 abbrev pub segment_prefix : Option ℕ → List ℕ
@@ -49,7 +49,7 @@ byte_if wanted b = if wanted then b ∷ [] else []
 -- the prefixes of an operation, rising, with 66h or without
 unfoldable pub prefixes : Op → Bool → List ℕ
 prefixes op narrow =
-    ((segment_prefix (segment op.args.items) ++ byte_if narrow 0x66) ++ byte_if op.lock 0xf0) ++ rep_prefix op.rep
+    ((segment_prefix (named_segment op.args.items) ++ byte_if narrow 0x66) ++ byte_if op.lock 0xf0) ++ rep_prefix op.rep
 
 -- the number of a register, general or segment
 abbrev pub register : Arg → ℕ
@@ -86,8 +86,8 @@ opcode r items =
     else if is_low r.second then r.low / 64 * 8 + register (operand 1 items) else r.low / 8
 
 -- the middle bits of the ModRM byte
-unfoldable pub middle : Row → List Arg → ℕ
-middle r items =
+unfoldable pub middle_of : Row → List Arg → ℕ
+middle_of r items =
     if is_middle r.first then register (operand 0 items) else if is_middle r.second then register (operand 1 items) else r.low % 8
 
 -- the base as the low three bits of the ModRM or SIB byte, 5 for none
@@ -118,21 +118,21 @@ address_bytes mid mode a =
 -- ModRM byte, SIB byte and displacement of what the ModRM byte names, by the mode
 unfoldable pub place_bytes : ℕ → ℕ → Arg → List ℕ
 place_bytes mid mode (Reg n) = (192 + 8 * mid + n % 8) ∷ []
-place_bytes mid mode (Mem a) = address_bytes mid mode a ++ lowest (displacement_length (mode_of a.base mode) (base a.base)) a.disp
+place_bytes mid mode (Mem a) = address_bytes mid mode a ++ low_bytes (displacement_length (mode_of a.base mode) (base a.base)) a.disp
 place_bytes mid mode _ = []
 
 -- the bytes between opcode and tail
 unfoldable pub form_bytes : Row → ℕ → List Arg → List ℕ
 form_bytes r mode items =
-    if is_place r.first then place_bytes (middle r items) mode (operand 0 items)
-    else if is_place r.second then place_bytes (middle r items) mode (operand 1 items) else []
+    if is_place r.first then place_bytes (middle_of r items) mode (operand 0 items)
+    else if is_place r.second then place_bytes (middle_of r items) mode (operand 1 items) else []
 
 -- so many bytes of an operand behind opcode and ModRM
 unfoldable pub operand_bytes : ℕ → Arg → List ℕ
-operand_bytes n (Imm v) = lowest n v
-operand_bytes n (Rel v) = lowest n v
-operand_bytes n (Mem a) = lowest n a.disp
-operand_bytes n (Far selector offset) = lowest (n - 2) offset ++ lowest (n - (n - 2)) selector
+operand_bytes n (Imm v) = low_bytes n v
+operand_bytes n (Rel v) = low_bytes n v
+operand_bytes n (Mem a) = low_bytes n a.disp
+operand_bytes n (Far selector offset) = low_bytes (n - 2) offset ++ low_bytes (n - (n - 2)) selector
 operand_bytes n _ = []
 
 -- the bytes behind opcode and ModRM

@@ -3,7 +3,7 @@ ghost use Rattle.std.specs.Prelude.{◌≡◌, ◌<◌, ◌≤◌, ◌++◌, Opt
 ghost use Rattle.arrayvec.specs.ArrayVec.{array_vec_len};
 ghost use Rattle.m386_encode.specs.Candidates.{candidate};
 
-use crate::parts::{Bytes, prefixes_of, tail_of, write_form, write_opcode};
+use crate::parts::{Bytes, tail_of, write_form, write_opcode, written_prefixes};
 use m386_opmap::op::Op;
 use m386_opmap::row::Row;
 
@@ -15,7 +15,7 @@ pub fn candidate_of(op: &Op, row: &Row, narrow: bool, mode: u8) -> Option<Bytes>
     ensures none { result ≡ None → 15 < length (candidate op.now row.now narrow mode) }
 {
     let args = op.args.as_slice();
-    let mut bytes = prefixes_of(op, narrow);
+    let mut bytes = written_prefixes(op, narrow);
     write_opcode(&mut bytes, row, args);
     write_form(&mut bytes, row, mode, args);
     let tail = tail_of(row, op.width, args);

@@ -15,7 +15,7 @@ use m386_opmap::op::Op;
 use m386_opmap::outcome::Reading;
 use m386_opmap::reading::reading;
 use m386_opmap::row::Row;
-use m386_opmap::rows::ROWS;
+use m386_opmap::rows::OPCODE_ROWS;
 
 /// Whether bytes spell an operation.
 fn spells(op: &Op, bytes: &[u8]) -> bool
@@ -106,7 +106,7 @@ fn best_of(op: &Op) -> Option<Bytes>
     ensures sound { IsSound op.now result }
     ensures met { (i : ℕ) → i < length opcode_rows → (get_or opcode_rows i no_row).name ≡ op.now.name → IsMet op.now result (get_or opcode_rows i no_row) }
 {
-    best_by(op, &ROWS)
+    best_by(op, &OPCODE_ROWS)
 }
 
 /// The shortest spelling of an operation (PRM 17.2.1), and among equally short ones the one whose bytes, compared in order,

@@ -1,7 +1,7 @@
 //! The parts of a spelling, from an operation and a row.
 ghost use Rattle.std.specs.Prelude.{◌≡◌, ℕ, ◌+◌, ◌<◌, ◌≤◌, ◌++◌, get_or};
 ghost use Rattle.arrayvec.specs.ArrayVec.{array_vec_len};
-ghost use Rattle.m386_encode.specs.Candidates.{lowest, operand, segment, segment_prefix, rep_prefix, byte_if, prefixes, register, is_low, is_middle, is_place, key_bytes, opcode, middle, base, mode_of, index, scale, address_bytes, place_bytes, form_bytes, operand_bytes, tail_bytes};
+ghost use Rattle.m386_encode.specs.Candidates.{low_bytes, operand, named_segment, segment_prefix, rep_prefix, byte_if, prefixes, register, is_low, is_middle, is_place, key_bytes, opcode, middle_of, base, mode_of, index, scale, address_bytes, place_bytes, form_bytes, operand_bytes, tail_bytes};
 
 use arrayvec::ArrayVec;
 use m386_base::number::Width;
@@ -14,10 +14,10 @@ use m386_opmap::row::{Operand, Row};
 pub type Bytes = ArrayVec<u8, 15>;
 
 /// Writes so many bytes of a number, the lowest first.
-#[tactic(auto, unfolding(crate::specs::Candidates::lowest))]
+#[tactic(auto, unfolding(crate::specs::Candidates::low_bytes))]
 fn write_number(bytes: &mut Bytes, count: usize, number: u32)
     requires { array_vec_len bytes.old + count ≤ 15 }
-    ensures items { bytes.new.items ≡ bytes.old.items ++ lowest count number }
+    ensures items { bytes.new.items ≡ bytes.old.items ++ low_bytes count number }
     ensures len { array_vec_len bytes.new ≡ array_vec_len bytes.old + count }
 {
     if count > 0 {
@@ -34,9 +34,9 @@ fn argument(args: &[Arg], place: usize) -> Arg
 }
 
 /// The segment register that the first memory operand names.
-#[tactic(auto, unfolding(crate::specs::Candidates::segment))]
+#[tactic(auto, unfolding(crate::specs::Candidates::named_segment))]
 fn segment_of(args: &[Arg]) -> Option<u8>
-    ensures { result ≡ segment args.now }
+    ensures { result ≡ named_segment args.now }
 {
     match args {
         [] => None,
@@ -88,7 +88,7 @@ fn write_rep(bytes: &mut Bytes, rep: Rep)
 
 /// The prefixes of an operation, rising, with 66h or without.
 #[tactic(auto, unfolding(crate::specs::Candidates::prefixes))]
-pub fn prefixes_of(op: &Op, narrow: bool) -> Bytes
+pub fn written_prefixes(op: &Op, narrow: bool) -> Bytes
     ensures items { result.items ≡ prefixes op.now narrow }
     ensures len { array_vec_len result ≤ 4 }
 {
@@ -162,9 +162,9 @@ pub fn write_opcode(bytes: &mut Bytes, row: &Row, args: &[Arg])
 }
 
 /// The middle bits of the ModRM byte.
-#[tactic(auto, unfolding(crate::specs::Candidates::middle))]
+#[tactic(auto, unfolding(crate::specs::Candidates::middle_of))]
 fn middle_of(row: &Row, args: &[Arg]) -> u8
-    ensures exact { result ≡ middle row.now args.now }
+    ensures exact { result ≡ middle_of row.now args.now }
     ensures few { result < 8 }
 {
     if stands_in_middle(row.first) {

@@ -15,7 +15,7 @@ use arrayvec::ArrayVec;
 use m386_opmap::name::Name;
 use m386_opmap::op::Op;
 use m386_opmap::row::{Operand, Row};
-use m386_opmap::rows::ROWS;
+use m386_opmap::rows::OPCODE_ROWS;
 
 /// Whether a jump's distance has one byte in each of its opcodes.
 fn stays_near(name: Name) -> bool
@@ -99,7 +99,7 @@ fn best_wide_of(op: &Op) -> Option<Bytes>
     ensures wide { IsWideSound op.now result }
     ensures met { (i : ℕ) → i < length opcode_rows → IsOffered op.now (get_or opcode_rows i no_row) → IsMetWide op.now result (get_or opcode_rows i no_row) }
 {
-    best_wide_by(op, &ROWS)
+    best_wide_by(op, &OPCODE_ROWS)
 }
 
 /// The shortest wide spelling of an operation (PRM 17.2.1), and among equally short ones the one whose bytes, compared in order,

@@ -6,13 +6,13 @@ use Rattle.std.proofs.lemmas.List.{length-append, length-take, length-drop, get_
 use Rattle.m386_image.specs.declared.image.Image.{Image}
 use Rattle.m386_image.specs.declared.image.Section.{Section}
 use Rattle.m386_image.specs.Format.{ArePlaced, IsValid}
-use Rattle.m386_image.specs.Memory.{covers, byte_in, byte_of_image, zeros, fill, fill_all}
+use Rattle.m386_image.specs.Memory.{covers, byte_of_sections, byte_of_image, blank_memory, fill, fill_all}
 use Rattle.m386_image.proofs.Valid.{valid_placed}
 
 -- ---- one section
 
-pub length-zeros : (size : ℕ) → length (zeros size) ≡ size
-length-zeros size = length-replicate {A = ℕ} size 0
+pub length-blank_memory : (size : ℕ) → length (blank_memory size) ≡ size
+length-blank_memory size = length-replicate {A = ℕ} size 0
 
 pub length-fill : (place : ℕ) (bytes memory : List ℕ) → place + length bytes ≤ length memory → length (fill place bytes memory) ≡ length memory
 length-fill place bytes memory h =
@@ -47,7 +47,7 @@ byte_over : List Section → ℕ → ℕ → ℕ
 byte_over [] place old = old
 byte_over (s ∷ ss) place old = cond (covers s place) (get_or s.bytes (place - s.addr) 0) (byte_over ss place old)
 
-byte_over-zero : (ss : List Section) (place : ℕ) → byte_over ss place 0 ≡ byte_in ss place
+byte_over-zero : (ss : List Section) (place : ℕ) → byte_over ss place 0 ≡ byte_of_sections ss place
 unfolding byte_over
 byte_over-zero [] place = refl
 byte_over-zero (s ∷ ss) place = ap (λ (b : ℕ). cond (covers s place) (get_or s.bytes (place - s.addr) 0) b) (byte_over-zero ss place)
@@ -92,22 +92,22 @@ filled_over low (s ∷ ss) memory place h =
       ]
     ]
 
-get_or-zeros : (n place : ℕ) → get_or (zeros n) place 0 ≡ 0
+get_or-zeros : (n place : ℕ) → get_or (blank_memory n) place 0 ≡ 0
 get_or-zeros n place =
     elim (cases_lt place n) [
       | inl lt ↦ get_or-replicate n place 0 0 lt
-      | inr le ↦ get_or_past (zeros n) place 0 (omega (arith, length-zeros n))
+      | inr le ↦ get_or_past (blank_memory n) place 0 (omega (arith, length-blank_memory n))
     ]
 
 -- sections that are put into zeros give each place its byte
-pub filled : (size : ℕ) (ss : List Section) (place : ℕ) → ArePlaced 0 size ss → get_or (fill_all ss (zeros size)) place 0 ≡ byte_in ss place
-filled size ss place h =
-    let len : length (zeros size) ≡ size = length-zeros size in
-    filled_over 0 ss (zeros size) place (subst (λ (n : ℕ). ArePlaced 0 n ss) (sym len) h) ∙ ap (byte_over ss place) (get_or-zeros size place) ∙ byte_over-zero ss place
+pub filled_bytes : (size : ℕ) (ss : List Section) (place : ℕ) → ArePlaced 0 size ss → get_or (fill_all ss (blank_memory size)) place 0 ≡ byte_of_sections ss place
+filled_bytes size ss place h =
+    let len : length (blank_memory size) ≡ size = length-blank_memory size in
+    filled_over 0 ss (blank_memory size) place (subst (λ (n : ℕ). ArePlaced 0 n ss) (sym len) h) ∙ ap (byte_over ss place) (get_or-zeros size place) ∙ byte_over-zero ss place
 
 -- the same for an image
-pub filled_image : (image : Image) (place : ℕ) → IsValid image → get_or (fill_all image.sections (zeros image.memory)) place 0 ≡ byte_of_image image place
-filled_image image place v = filled image.memory image.sections place (valid_placed image v)
+pub filled_image : (image : Image) (place : ℕ) → IsValid image → get_or (fill_all image.sections (blank_memory image.memory)) place 0 ≡ byte_of_image image place
+filled_image image place v = filled_bytes image.memory image.sections place (valid_placed image v)
 
 -- one more section, as a loop over sections puts them
 pub fill_all-push : (ss : List Section) (s : Section) (memory : List ℕ) → fill_all (ss ++ s ∷ []) memory ≡ fill s.addr s.bytes (fill_all ss memory)

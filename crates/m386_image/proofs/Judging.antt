@@ -7,7 +7,7 @@ use Rattle.m386_image.specs.declared.image.Section.{Section}
 use Rattle.m386_image.specs.declared.fault.ImageFault.{ImageFault}
 use Rattle.m386_image.specs.declared.fault.ImageFault.TheVariants as faults
 use Rattle.m386_image.specs.Fault.{Stands, NoneBelow, FirstFault}
-use Rattle.m386_image.specs.Format.{AreBytes, memory_of, cpus_of, flags_of, gdt_of, idt_of, starts_of, start_of, plan_count, plan_end, section_count, TakesAll, HasSections, ArePlaced, HasHeader, ImageOf}
+use Rattle.m386_image.specs.Format.{AreBytes, memory_of, cpus_of, flags_of, gdt_of, idt_of, starts_of, start_word, plan_count, plan_end, section_count, TakesAll, HasSections, ArePlaced, HasHeader, ImageOf}
 use Rattle.m386_image.proofs.Sections.{AreSame, takes_all_same}
 
 -- the image of a header and sections
@@ -106,9 +106,9 @@ image_read bytes image ss rest p h =
 
 -- the starts of the processors below p were read, and the others are 0
 pub record Started (bytes starts : List ℕ) (p : ℕ) : Type 0 where
-  pub read : (k : ℕ) → k < p → get_or starts k 0 ≡ start_of bytes k
+  pub read : (k : ℕ) → k < p → get_or starts k 0 ≡ start_word bytes k
   pub unread : (k : ℕ) → p ≤ k → get_or starts k 0 ≡ 0
 
 pub all_started : (bytes starts : List ℕ) (p : ℕ) → length starts ≡ 8 → 8 ≤ p → Started bytes starts p → starts ≡ starts_of bytes
 unfolding starts_of
-all_started bytes starts p len all s = fill_by_all (start_of bytes) starts 8 0 len (λ k lt. s.read k (omega arith))
+all_started bytes starts p len all s = fill_by_all (start_word bytes) starts 8 0 len (λ k lt. s.read k (omega arith))

@@ -14,14 +14,14 @@ use Rattle.m386_image.proofs.Numbers.{AreBytes-drop, length-u32_bytes, u32_at_lt
 abbrev pub front : List ℕ → Section
 front bytes = record { addr = u32_at 0 bytes; bytes = take (u32_at 4 bytes) (drop 8 bytes) }
 
-abbrev pub behind : List ℕ → List ℕ
-behind bytes = drop (u32_at 4 bytes) (drop 8 bytes)
+abbrev pub behind_section : List ℕ → List ℕ
+behind_section bytes = drop (u32_at 4 bytes) (drop 8 bytes)
 
 joined : (a n t d : List ℕ) → a ++ (n ++ (t ++ d)) ≡ (a ++ (n ++ t)) ++ d
 joined a n t d = simp append_assoc
 
 -- where there is room for them, they stand there
-pub front_takes : (bytes : List ℕ) → AreBytes bytes → 8 + u32_at 4 bytes ≤ length bytes → Takes bytes (front bytes) (behind bytes)
+pub front_takes : (bytes : List ℕ) → AreBytes bytes → 8 + u32_at 4 bytes ≤ length bytes → Takes bytes (front bytes) (behind_section bytes)
 front_takes bytes h room =
     let a = u32_at 0 bytes in
     let n = u32_at 4 bytes in
@@ -49,7 +49,7 @@ parts_take bytes a n body t d h long a-is n-is body-is room t-is d-is =
 pub record IsFront (bytes : List ℕ) (s : Section) (after : List ℕ) : Type 0 where
   pub room : 8 + u32_at 4 bytes ≤ length bytes
   pub section : s ≡ front bytes
-  pub rest : after ≡ behind bytes
+  pub rest : after ≡ behind_section bytes
 
 pub takes_front : (bytes : List ℕ) (s : Section) (after : List ℕ) → Takes bytes s after → IsFront bytes s after
 takes_front bytes s after t =

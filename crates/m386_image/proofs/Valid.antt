@@ -8,7 +8,7 @@ use Rattle.std.proofs.lemmas.List.FromFn.{fill_by_all, length-map-range_with_len
 use Rattle.std.proofs.lemmas.Nat.{from_le_bytes-to_le_bytes_2, from_le_bytes-to_le_bytes_4}
 use Rattle.m386_image.specs.declared.image.Image.{Image}
 use Rattle.m386_image.specs.declared.image.TableAt.{TableAt}
-use Rattle.m386_image.specs.Format.{AreBytes, u16_at, u32_at, u16_bytes, u32_bytes, cpus_of, starts_of, start_of, plan_end, section_text, HasText, ArePlaced, IsMemorySize, IsCpuCount, ImageOf, IsValid, machine_text, tables_text, counts_text, image_text}
+use Rattle.m386_image.specs.Format.{AreBytes, u16_at, u32_at, u16_bytes, u32_bytes, cpus_of, starts_of, start_word, plan_end, section_text, HasText, ArePlaced, IsMemorySize, IsCpuCount, ImageOf, IsValid, head_text, tables_text, counts_text, image_text}
 use Rattle.m386_image.proofs.Numbers.{AreBytes-drop, u16_at_lt, u32_at_lt, u32_at-drop, u32_at-bytes, length-u32_bytes}
 
 -- ---- what holds of a valid image
@@ -36,17 +36,17 @@ valid_counts image v =
     (omega (arith, v.1.planned, u32_at_lt 24 v.0 v.1.are_bytes), omega (arith, v.1.sections.sections.count, u32_at_lt 28 v.0 v.1.are_bytes))
 
 -- the starts of the bytes, one by one
-get_or-starts_of : (bytes : List ℕ) (k : ℕ) → k < 8 → get_or (starts_of bytes) k 0 ≡ start_of bytes k
+get_or-starts_of : (bytes : List ℕ) (k : ℕ) → k < 8 → get_or (starts_of bytes) k 0 ≡ start_word bytes k
 unfolding starts_of
-get_or-starts_of bytes k lt = get_or-map-range_with_len (start_of bytes) 0 8 k k 0 lt (omega arith)
+get_or-starts_of bytes k lt = get_or-map-range_with_len (start_word bytes) 0 8 k k 0 lt (omega arith)
 
 length-starts_of : (bytes : List ℕ) → length (starts_of bytes) ≡ 8
 unfolding starts_of
-length-starts_of bytes = length-map-range_with_len (start_of bytes) 0 8
+length-starts_of bytes = length-map-range_with_len (start_word bytes) 0 8
 
-starts_from : (bytes starts : List ℕ) → length starts ≡ 8 → ((k : ℕ) → k < 8 → get_or starts k 0 ≡ start_of bytes k) → starts ≡ starts_of bytes
+starts_from : (bytes starts : List ℕ) → length starts ≡ 8 → ((k : ℕ) → k < 8 → get_or starts k 0 ≡ start_word bytes k) → starts ≡ starts_of bytes
 unfolding starts_of
-starts_from bytes starts len each = fill_by_all (start_of bytes) starts 8 0 len each
+starts_from bytes starts len each = fill_by_all (start_word bytes) starts 8 0 len each
 
 -- ---- the text of a valid image is its bytes
 
@@ -82,7 +82,7 @@ pub record HasWords (image : Image) (text : List ℕ) : Type 0 where
   pub rest : drop 32 text ≡ flat_map u32_bytes image.starts ++ flat_map section_text image.sections
 
 -- the numbers of an image fit their places
-pub record Fits (image : Image) : Type 0 where
+pub record NumbersFit (image : Image) : Type 0 where
   pub memory : image.memory < 2 ^ 32
   pub gdt_base : image.gdt.base < 2 ^ 32
   pub gdt_limit : image.gdt.limit < 2 ^ 16
@@ -91,7 +91,7 @@ pub record Fits (image : Image) : Type 0 where
   pub planned : length image.plan < 2 ^ 32
   pub sections : length image.sections < 2 ^ 32
 
-has_words : (image : Image) → Fits image → HasWords image (image_text image)
+has_words : (image : Image) → NumbersFit image → HasWords image (image_text image)
 unfolding image_text u16_at u32_at u16_bytes u32_bytes
 has_words image f = record {
   magic = refl;
@@ -108,7 +108,7 @@ has_words image f = record {
   rest = refl;
 }
 
-valid_fits : (image : Image) → IsValid image → Fits image
+valid_fits : (image : Image) → IsValid image → NumbersFit image
 valid_fits image v = record {
   memory = omega (arith, v.1.memory, u32_at_lt 8 v.0 v.1.are_bytes);
   gdt_base = subst (λ (t : TableAt). t.base < 2 ^ 32) (sym v.1.gdt) (u32_at_lt 12 v.0 v.1.are_bytes);
@@ -123,10 +123,10 @@ pub valid_starts : (image : Image) → IsValid image → length image.starts ≡
 valid_starts image v = ap length v.1.starts ∙ length-starts_of v.0
 
 -- a start, and that it is 0 where there is no such processor
-valid_start : (image : Image) (v : IsValid image) (k : ℕ) → k < 8 → get_or image.starts k 0 ≡ start_of v.0 k
+valid_start : (image : Image) (v : IsValid image) (k : ℕ) → k < 8 → get_or image.starts k 0 ≡ start_word v.0 k
 valid_start image v k lt = ap (λ (xs : List ℕ). get_or xs k 0) v.1.starts ∙ get_or-starts_of v.0 k lt
 
-start_lt : (bytes : List ℕ) (k : ℕ) → AreBytes bytes → start_of bytes k < 2 ^ 32
+start_lt : (bytes : List ℕ) (k : ℕ) → AreBytes bytes → start_word bytes k < 2 ^ 32
 start_lt bytes k h =
     let P : Bool → Type 0 = λ b. (if b then u32_at (32 + 4 * k) bytes else 0) < 2 ^ 32 in
     elim (nat_lt k (cpus_of bytes)) as P [ true ↦ u32_at_lt (32 + 4 * k) bytes h | false ↦ omega arith ]
@@ -139,7 +139,7 @@ valid_start_lt image v k =
     ]
 
 -- each start of an image is that of its text
-text_start : (image : Image) (v : IsValid image) (text : List ℕ) → HasWords image text → (k : ℕ) → k < 8 → get_or image.starts k 0 ≡ start_of text k
+text_start : (image : Image) (v : IsValid image) (text : List ℕ) → HasWords image text → (k : ℕ) → k < 8 → get_or image.starts k 0 ≡ start_word text k
 text_start image v text w k lt =
     let is : u32_at (32 + 4 * k) text ≡ get_or image.starts k 0 =
     sym (u32_at-drop 32 (4 * k) text) ∙ ap (u32_at (4 * k)) w.rest ∙ u32_at-words image.starts (flat_map section_text image.sections) k (omega (arith, valid_starts image v)) (valid_start_lt image v) in
@@ -147,7 +147,7 @@ text_start image v text w k lt =
       | inl here ↦ let t : ltb k image.cpus ≡ true = lt-ltb k image.cpus here in rw (w.cpus, t, is) refl
       | inr past ↦
           let t : ltb k image.cpus ≡ false = le-ltb k image.cpus past in
-          let absent : start_of v.0 k ≡ 0 = rw (← v.1.cpus, t) refl in
+          let absent : start_word v.0 k ≡ 0 = rw (← v.1.cpus, t) refl in
           rw (w.cpus, t) (valid_start image v k lt ∙ absent)
     ]
 
@@ -197,7 +197,7 @@ of_u16 n = record { bytes = u16_cells n }
 of_u32 : (n : ℕ) → IsOfBytes (u32_bytes n)
 of_u32 n = record { bytes = u32_cells n }
 
-machine_bytes : (image : Image) → IsValid image → IsOfBytes (machine_text image)
+machine_bytes : (image : Image) → IsValid image → IsOfBytes (head_text image)
 machine_bytes image v =
     let magic : IsOfBytes (codes "M386") = record { bytes = listed_bytes (codes "M386") (lit< tt, (lit< tt, (lit< tt, (lit< tt, tt)))) } in
     let cells : IsOfBytes (image.cpus ∷ image.flags ∷ []) = record { bytes = listed_bytes (image.cpus ∷ image.flags ∷ []) (omega (arith, valid_cpus image v), (omega (arith, valid_flags image v), tt)) } in

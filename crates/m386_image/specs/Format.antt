@@ -59,12 +59,12 @@ section_count bytes = u32_at 28 bytes
 
 -- The start of processor p, which is 0 where there is no such processor, whatever stands in the file.
 -- Own choice: docs/DECISIONS.md, "The image file"
-abbrev pub start_of : List ℕ → ℕ → ℕ
-start_of bytes p = if nat_lt p (cpus_of bytes) then u32_at (32 + 4 * p) bytes else 0
+abbrev pub start_word : List ℕ → ℕ → ℕ
+start_word bytes p = if nat_lt p (cpus_of bytes) then u32_at (32 + 4 * p) bytes else 0
 
 -- the starts of the processors 0 to 7
 unfoldable pub starts_of : List ℕ → List ℕ
-starts_of bytes = map (start_of bytes) (range_with_len 0 8)
+starts_of bytes = map (start_word bytes) (range_with_len 0 8)
 
 -- The memory: 4,096 to 16,777,216 bytes, a multiple of 4,096.
 -- Own choice: docs/DECISIONS.md, "Limits"
@@ -149,8 +149,8 @@ IsValid image = (bytes : List ℕ) × ImageOf bytes image
 -- ---- the one text of an image that is written
 
 -- the first twelve bytes: the text M386, the version, the processors, the flags, and the memory
-abbrev pub machine_text : Image → List ℕ
-machine_text image = codes "M386" ++ u16_bytes 1 ++ (image.cpus ∷ image.flags ∷ []) ++ u32_bytes image.memory
+abbrev pub head_text : Image → List ℕ
+head_text image = codes "M386" ++ u16_bytes 1 ++ (image.cpus ∷ image.flags ∷ []) ++ u32_bytes image.memory
 
 abbrev pub tables_text : Image → List ℕ
 tables_text image = u32_bytes image.gdt.base ++ u16_bytes image.gdt.limit ++ u16_bytes image.idt.limit ++ u32_bytes image.idt.base
@@ -161,4 +161,4 @@ counts_text image = u32_bytes (length image.plan) ++ u32_bytes (length image.sec
 -- The bytes that are written for an image: of all bytes that are the image those with 0 in each ignored word.
 -- Own choice: docs/DECISIONS.md, "The image file"
 unfoldable pub image_text : Image → List ℕ
-image_text image = machine_text image ++ tables_text image ++ counts_text image ++ flat_map u32_bytes image.starts ++ flat_map section_text image.sections
+image_text image = head_text image ++ tables_text image ++ counts_text image ++ flat_map u32_bytes image.starts ++ flat_map section_text image.sections

@@ -8,18 +8,18 @@ abbrev pub covers : Section → ℕ → Bool
 covers s place = nat_le s.addr place && nat_lt place (s.addr + length s.bytes)
 
 -- the byte at a place where these sections stand in zeros
-abbrev pub byte_in : List Section → ℕ → ℕ
-byte_in [] place = 0
-byte_in (s ∷ ss) place = if covers s place then slice_index s.bytes (place - s.addr) else byte_in ss place
+abbrev pub byte_of_sections : List Section → ℕ → ℕ
+byte_of_sections [] place = 0
+byte_of_sections (s ∷ ss) place = if covers s place then slice_index s.bytes (place - s.addr) else byte_of_sections ss place
 
 -- The byte at a place of the memory of an image: that of the section which covers the place, else 0.
 -- Own choice: docs/DECISIONS.md, "The image file"
 abbrev pub byte_of_image : Image → ℕ → ℕ
-byte_of_image image place = byte_in image.sections place
+byte_of_image image place = byte_of_sections image.sections place
 
 -- a memory of zeros
-abbrev pub zeros : ℕ → List ℕ
-zeros size = replicate size 0
+abbrev pub blank_memory : ℕ → List ℕ
+blank_memory size = replicate size 0
 
 -- A memory in which these bytes stand from a place on.
 abbrev pub fill : ℕ → List ℕ → List ℕ → List ℕ

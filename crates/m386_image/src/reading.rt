@@ -1,7 +1,7 @@
 //! An image from bytes.
 ghost use Rattle.std.specs.Prelude.{◌≡◌, ◌↔◌, ◌⊎◌, ◌<◌, ◌≤◌, length, Result, Ok, Err, IsTrue, IfOk, MatchResult};
 ghost use Rattle.m386_image.specs.Fault.{FirstFault};
-ghost use Rattle.m386_image.specs.Format.{IsMemorySize, HasHeader, ImageOf, plan_end, starts_of, start_of};
+ghost use Rattle.m386_image.specs.Format.{IsMemorySize, HasHeader, ImageOf, plan_end, starts_of, start_word};
 ghost use Rattle.m386_image.specs.declared.fault.ImageFault.{ImageFault};
 ghost use Rattle.m386_image.specs.declared.fault.ReadStop.TheVariants.{Memory, Bad};
 ghost use Rattle.m386_image.specs.declared.image.Image.{Image};

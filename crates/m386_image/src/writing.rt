@@ -1,6 +1,6 @@
 //! An image as bytes.
 ghost use Rattle.std.specs.Prelude.{◌≡◌, ◌++◌, ◌^◌, ◌<◌, length, OnOk, IfOk};
-ghost use Rattle.m386_image.specs.Format.{HasText, u16_bytes, u32_bytes, machine_text, tables_text, counts_text, section_text, image_text, IsValid, ImageOf};
+ghost use Rattle.m386_image.specs.Format.{HasText, u16_bytes, u32_bytes, head_text, tables_text, counts_text, section_text, image_text, IsValid, ImageOf};
 ghost use Rattle.std.specs.List.{flat_map, AllByRecursion};
 
 use crate::image::{Image, Section};
@@ -28,7 +28,7 @@ fn put_u32(out: &mut Vec<u8>, number: u32) -> Result<(), NoMemory>
 /// Appends what the header says of the machine.
 #[tactic(auto, using(std::proofs::lemmas::List::append_assoc))]
 fn put_machine(out: &mut Vec<u8>, image: &Image) -> Result<(), NoMemory>
-    ensures { OnOk result (out.new.items ≡ out.old.items ++ machine_text image.now) }
+    ensures { OnOk result (out.new.items ≡ out.old.items ++ head_text image.now) }
 {
     out.extend_from_slice(b"M386")?;
     put_u16(out, 1)?;

@@ -4,7 +4,7 @@ use Rattle.std.proofs.lemmas.Nat.{and_block, and_mask}
 use Rattle.m386_base.specs.declared.ask.Ask.{Ask}
 use Rattle.m386_base.specs.Bus.{mask, IsEnabled}
 use Rattle.m386_base.specs.Bytes.{byte_of, bytes_of}
-use Rattle.m386_memory.specs.Contents.{part_of, value_of, group_of, group_bytes, Stand, with_bytes}
+use Rattle.m386_memory.specs.Contents.{byte_part, value_from, group_of, group_bytes, Stand, with_bytes}
 
 -- four bytes as one number
 abbrev four : ℕ → ℕ → ℕ → ℕ → ℕ
@@ -38,19 +38,19 @@ kept-on false b h = refl
 abbrev off : ℕ → ℕ → Bool
 off enables k = bit_and enables (2 ^ k) == 0
 
-value-four : (e a b c d : ℕ) → value_of e a b c d ≡ four (kept (off e 0) a) (kept (off e 1) b) (kept (off e 2) c) (kept (off e 3) d)
+value-four : (e a b c d : ℕ) → value_from e a b c d ≡ four (kept (off e 0) a) (kept (off e 1) b) (kept (off e 2) c) (kept (off e 3) d)
 value-four e a b c d =
-    let i : part_of e 0 a ≡ kept (off e 0) a * 1 = kept-mul (off e 0) a 1 in
-    let j : part_of e 1 b ≡ kept (off e 1) b * 256 = kept-mul (off e 1) b 256 in
-    let k : part_of e 2 c ≡ kept (off e 2) c * 65536 = kept-mul (off e 2) c 65536 in
-    let l : part_of e 3 d ≡ kept (off e 3) d * 16777216 = kept-mul (off e 3) d 16777216 in
+    let i : byte_part e 0 a ≡ kept (off e 0) a * 1 = kept-mul (off e 0) a 1 in
+    let j : byte_part e 1 b ≡ kept (off e 1) b * 256 = kept-mul (off e 1) b 256 in
+    let k : byte_part e 2 c ≡ kept (off e 2) c * 65536 = kept-mul (off e 2) c 65536 in
+    let l : byte_part e 3 d ≡ kept (off e 3) d * 16777216 = kept-mul (off e 3) d 16777216 in
     rw (i, j, k, l) (omega arith)
 
-mask-value : (e : ℕ) → mask e ≡ value_of e 255 255 255 255
+mask-value : (e : ℕ) → mask e ≡ value_from e 255 255 255 255
 mask-value e = refl
 
 -- a value of a group has zeros for the bytes that aren't enabled
-pub value_enabled : (e a b c d : ℕ) → a < 256 → b < 256 → c < 256 → d < 256 → IsEnabled e (value_of e a b c d)
+pub value_enabled : (e a b c d : ℕ) → a < 256 → b < 256 → c < 256 → d < 256 → IsEnabled e (value_from e a b c d)
 value_enabled e a b c d p q r s =
     let m : mask e ≡ four (kept (off e 0) 255) (kept (off e 1) 255) (kept (off e 2) 255) (kept (off e 3) 255) = mask-value e ∙ value-four e 255 255 255 255 in
     rw (m, value-four e a b c d, and_four (kept (off e 0) a) (kept (off e 1) b) (kept (off e 2) c) (kept (off e 3) d) (kept (off e 0) 255) (kept (off e 1) 255) (kept (off e 2) 255) (kept (off e 3) 255) (kept-lt _ a p) (kept-lt _ b q) (kept-lt _ c r) (kept-lt _ 255 (omega arith)) (kept-lt _ 255 (omega arith)) (kept-lt _ 255 (omega arith)), kept-and (off e 0) a p, kept-and (off e 1) b q, kept-and (off e 2) c r, kept-and (off e 3) d s) refl

@@ -8,7 +8,7 @@ use Rattle.m386_base.specs.declared.ask.Space.{Space}
 use Rattle.m386_base.specs.Bus.{IsAsk, IsEnabled, cycle_of}
 use Rattle.m386_base.specs.Bytes.{bytes_of, byte_at_place}
 use Rattle.m386_base.specs.Phrase.{space_number}
-use Rattle.m386_memory.specs.Contents.{Contents, byte_in, is_inside, group_of, Stand, SameSize, written}
+use Rattle.m386_memory.specs.Contents.{Contents, byte_in, holds_byte, group_of, Stand, SameSize, with_written}
 use Rattle.m386_memory.specs.History.{past, byte_then, byte_after, Consistent, last_cpu, Unsplit, WellFormed, IsHistory, IsRecord, cycles_of}
 use Rattle.m386_memory.proofs.Places.{byte_in-written, SameSize-written, is_inside-same}
 
@@ -42,24 +42,24 @@ IsHistory-push first H x h i j k =
     }
 
 -- what a cycle leaves at each place, where the bytes stood as the cycles before it left them
-bytes-push : (first now new : Contents) (H : List Cycle) (x : Cycle) → SameSize first now → ((s : Space) (a : ℕ) → byte_in now s a ≡ byte_after first (past H) s a) → new ≡ cond x.ask.write (written now x.ask.space (bytes_of x.ask)) now → (s : Space) (a : ℕ) → byte_in new s a ≡ byte_after first (past (H ++ x ∷ [])) s a
+bytes-push : (first now new : Contents) (H : List Cycle) (x : Cycle) → SameSize first now → ((s : Space) (a : ℕ) → byte_in now s a ≡ byte_after first (past H) s a) → new ≡ cond x.ask.write (with_written now x.ask.space (bytes_of x.ask)) now → (s : Space) (a : ℕ) → byte_in new s a ≡ byte_after first (past (H ++ x ∷ [])) s a
 unfolding byte_after bytes_of
 bytes-push first now new H x z h e s a = rw (past-push H x) (go x.ask.write refl)
   where
     go : (w : Bool) → x.ask.write ≡ w → byte_in new s a ≡ byte_then first x s a (byte_after first (past H) s a)
     go true w =
-        let n : new ≡ written now x.ask.space (bytes_of x.ask) = rw w at e in
+        let n : new ≡ with_written now x.ask.space (bytes_of x.ask) = rw w at e in
         rw (n, w, ← h s a, ← is_inside-same first now s a z) (byte_in-written now x.ask.space (bytes_of x.ask) s a)
     go false w =
         let n : new ≡ now = rw w at e in
         rw (n, w) (h s a)
 
 -- what an ask does to the bytes, its cycle does
-effect-answered : (now : Contents) (ask : Ask) (v : ℕ) → cond ask.write (written now ask.space (bytes_of ask)) now ≡ cond (cycle_of ask v).write (written now (cycle_of ask v).space (bytes_of (cycle_of ask v))) now
+effect-answered : (now : Contents) (ask : Ask) (v : ℕ) → cond ask.write (with_written now ask.space (bytes_of ask)) now ≡ cond (cycle_of ask v).write (with_written now (cycle_of ask v).space (bytes_of (cycle_of ask v))) now
 unfolding cycle_of
 effect-answered now ask v = go ask.write refl
   where
-    go : (w : Bool) → ask.write ≡ w → cond ask.write (written now ask.space (bytes_of ask)) now ≡ cond (cond ask.write ask (record ask { value = v })).write (written now (cond ask.write ask (record ask { value = v })).space (bytes_of (cond ask.write ask (record ask { value = v })))) now
+    go : (w : Bool) → ask.write ≡ w → cond ask.write (with_written now ask.space (bytes_of ask)) now ≡ cond (cond ask.write ask (record ask { value = v })).write (with_written now (cond ask.write ask (record ask { value = v })).space (bytes_of (cond ask.write ask (record ask { value = v })))) now
     go true w = rw w refl
     go false w = rw w refl
 
@@ -82,19 +82,19 @@ IsRecord-empty first = record {
 }
 
 -- a record goes on by one cycle
-pub IsRecord-push : (first now new : Contents) (H : List Cycle) (cpu : ℕ) (ask : Ask) (v : ℕ) → IsRecord first H now → IsAsk ask → (ask.joined ≡ true → last_cpu (past H) ≡ Some cpu) → IsEnabled ask.enables v → (ask.write ≡ false → Stand (byte_in now ask.space) (bytes_of (cycle_of ask v))) → new ≡ cond ask.write (written now ask.space (bytes_of ask)) now → IsRecord first (H ++ record { cpu = cpu; ask = cycle_of ask v } ∷ []) new
+pub IsRecord-push : (first now new : Contents) (H : List Cycle) (cpu : ℕ) (ask : Ask) (v : ℕ) → IsRecord first H now → IsAsk ask → (ask.joined ≡ true → last_cpu (past H) ≡ Some cpu) → IsEnabled ask.enables v → (ask.write ≡ false → Stand (byte_in now ask.space) (bytes_of (cycle_of ask v))) → new ≡ cond ask.write (with_written now ask.space (bytes_of ask)) now → IsRecord first (H ++ record { cpu = cpu; ask = cycle_of ask v } ∷ []) new
 unfolding cycle_of
 IsRecord-push first now new H cpu ask v r i j e k n =
     let p = same-answered ask v in
     let x : Cycle = record { cpu = cpu; ask = cycle_of ask v } in
-    let m : new ≡ cond x.ask.write (written now x.ask.space (bytes_of x.ask)) now = n ∙ effect-answered now ask v in
+    let m : new ≡ cond x.ask.write (with_written now x.ask.space (bytes_of x.ask)) now = n ∙ effect-answered now ask v in
     record {
       history = IsHistory-push first H x r.history (IsAsk-answered ask v i e) (λ h. j (sym p.1 ∙ h)) (λ h. rw p.2 (stand-same (byte_in now ask.space) (byte_after first (past H) ask.space) _ (r.bytes ask.space) (k (sym p.0 ∙ h))));
       size = size-push ask.write n;
       bytes = bytes-push first now new H x r.size r.bytes m;
     }
   where
-    size-push : (w : Bool) → new ≡ cond w (written now ask.space (bytes_of ask)) now → SameSize first new
+    size-push : (w : Bool) → new ≡ cond w (with_written now ask.space (bytes_of ask)) now → SameSize first new
     size-push true e = rw e (SameSize-written first now ask.space (bytes_of ask) r.size)
     size-push false e = rw e r.size
 
@@ -148,7 +148,7 @@ byte_after-push c H x s a = rw (past-push H x) refl
 pub byte_after-read : (c : Contents) (H : List Cycle) (x : Cycle) (s : Space) (a : ℕ) → x.ask.write ≡ false → byte_after c (past (H ++ x ∷ [])) s a ≡ byte_after c (past H) s a
 byte_after-read c H x s a w = byte_after-push c H x s a ∙ go x.ask.write w
   where
-    go : (b : Bool) → b ≡ false → cond ((b && eqb (space_number x.ask.space) (space_number s)) && is_inside c s a) (unwrap_or (byte_at_place (bytes_of x.ask) a) (byte_after c (past H) s a)) (byte_after c (past H) s a) ≡ byte_after c (past H) s a
+    go : (b : Bool) → b ≡ false → cond ((b && eqb (space_number x.ask.space) (space_number s)) && holds_byte c s a) (unwrap_or (byte_at_place (bytes_of x.ask) a) (byte_after c (past H) s a)) (byte_after c (past H) s a) ≡ byte_after c (past H) s a
     go true h = cc
     go false h = refl
 

@@ -6,7 +6,7 @@ use Rattle.m386_base.specs.declared.ask.Space.{Space}
 use Rattle.m386_base.specs.declared.ask.Space.TheVariants.{Memory, Port}
 use Rattle.m386_base.specs.Bytes.{byte_at_place}
 use Rattle.m386_base.specs.Phrase.{space_number}
-use Rattle.m386_memory.specs.Contents.{Contents, byte_in, is_inside, SameSize, with_bytes, written}
+use Rattle.m386_memory.specs.Contents.{Contents, byte_in, holds_byte, SameSize, with_bytes, with_written}
 
 pub length-with_bytes : (xs : List ℕ) (bs : List (ℕ × ℕ)) → length (with_bytes xs bs) ≡ length xs
 length-with_bytes xs [] = refl
@@ -34,17 +34,17 @@ get_or-with_bytes xs (b ∷ bs) a d = go (eqb b.0 a) refl (ltb a (length xs)) re
         get_or-set_other (with_bytes xs bs) b.0 a b.1 d i ∙ ih
 
 -- what stands at a place after a write
-pub byte_in-written : (c : Contents) (t : Space) (bs : List (ℕ × ℕ)) (s : Space) (a : ℕ) → byte_in (written c t bs) s a ≡ cond (eqb (space_number t) (space_number s) && is_inside c s a) (unwrap_or (byte_at_place bs a) (byte_in c s a)) (byte_in c s a)
+pub byte_in-written : (c : Contents) (t : Space) (bs : List (ℕ × ℕ)) (s : Space) (a : ℕ) → byte_in (with_written c t bs) s a ≡ cond (eqb (space_number t) (space_number s) && holds_byte c s a) (unwrap_or (byte_at_place bs a) (byte_in c s a)) (byte_in c s a)
 byte_in-written c Memory bs Memory a = get_or-with_bytes c.memory bs a 255
 byte_in-written c Memory bs Port a = refl
 byte_in-written c Port bs Memory a = refl
 byte_in-written c Port bs Port a = get_or-with_bytes c.ports bs a 0
 
 -- a write leaves as many bytes
-pub SameSize-written : (first c : Contents) (t : Space) (bs : List (ℕ × ℕ)) → SameSize first c → SameSize first (written c t bs)
+pub SameSize-written : (first c : Contents) (t : Space) (bs : List (ℕ × ℕ)) → SameSize first c → SameSize first (with_written c t bs)
 SameSize-written first c Memory bs h = record { memory = length-with_bytes c.memory bs ∙ h.memory; ports = h.ports }
 SameSize-written first c Port bs h = record { memory = h.memory; ports = length-with_bytes c.ports bs ∙ h.ports }
 
-pub is_inside-same : (first c : Contents) (s : Space) (a : ℕ) → SameSize first c → is_inside c s a ≡ is_inside first s a
+pub is_inside-same : (first c : Contents) (s : Space) (a : ℕ) → SameSize first c → holds_byte c s a ≡ holds_byte first s a
 is_inside-same first c Memory a h = rw h.memory refl
 is_inside-same first c Port a h = rw h.ports refl

@@ -35,25 +35,25 @@ byte_in c Memory a = slice_index_or c.memory a 255
 byte_in c Port a = slice_index_or c.ports a 0
 
 -- a place that holds a byte: what is written elsewhere is lost
-abbrev pub is_inside : Contents → Space → ℕ → Bool
-is_inside c s a = nat_lt a (length (space_in c s))
+abbrev pub holds_byte : Contents → Space → ℕ → Bool
+holds_byte c s a = nat_lt a (length (space_in c s))
 
 -- n bytes of 0
 unfoldable pub zeros : ℕ → List ℕ
 zeros n = replicate n 0
 
 -- byte k of a group at its place in the value, where it is enabled
-abbrev pub part_of : ℕ → ℕ → ℕ → ℕ
-part_of enables k byte = if bit_and enables (2 ^ k) == 0 then 0 else byte * 2 ^ (8 * k)
+abbrev pub byte_part : ℕ → ℕ → ℕ → ℕ
+byte_part enables k byte = if bit_and enables (2 ^ k) == 0 then 0 else byte * 2 ^ (8 * k)
 
 -- The value of a group of four bytes: the enabled ones, the first lowest, and zeros for the others.
 -- Source: Intel 80386 PRM 2.2
-abbrev pub value_of : ℕ → ℕ → ℕ → ℕ → ℕ → ℕ
-value_of enables b0 b1 b2 b3 = part_of enables 0 b0 + part_of enables 1 b1 + part_of enables 2 b2 + part_of enables 3 b3
+abbrev pub value_from : ℕ → ℕ → ℕ → ℕ → ℕ → ℕ
+value_from enables b0 b1 b2 b3 = byte_part enables 0 b0 + byte_part enables 1 b1 + byte_part enables 2 b2 + byte_part enables 3 b3
 
 -- the value of the group at an address, where these are the bytes at each place
 unfoldable pub group_of : (ℕ → ℕ) → ℕ → ℕ → ℕ
-group_of byte addr enables = value_of enables (byte addr) (byte (addr + 1)) (byte (addr + 2)) (byte (addr + 3))
+group_of byte addr enables = value_from enables (byte addr) (byte (addr + 1)) (byte (addr + 2)) (byte (addr + 3))
 
 -- the value of a group of one space
 abbrev pub group_in : Contents → Space → ℕ → ℕ → ℕ
@@ -79,6 +79,6 @@ abbrev pub filled : List ℕ → ℕ → List ℕ → List ℕ
 filled xs at ys = take at xs ++ ys ++ drop (at + length ys) xs
 
 -- the contents after these bytes were written in one space
-abbrev pub written : Contents → Space → List (ℕ × ℕ) → Contents
-written c Memory bs = record c { memory = with_bytes c.memory bs }
-written c Port bs = record c { ports = with_bytes c.ports bs }
+abbrev pub with_written : Contents → Space → List (ℕ × ℕ) → Contents
+with_written c Memory bs = record c { memory = with_bytes c.memory bs }
+with_written c Port bs = record c { ports = with_bytes c.ports bs }

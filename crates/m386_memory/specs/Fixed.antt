@@ -3,7 +3,7 @@ use Rattle.std.specs.Prelude.{ℕ, List, [], map, if◌then◌else◌}
 use Rattle.m386_base.specs.declared.ask.Ask.{Ask}
 use Rattle.m386_base.specs.declared.ask.Cycle.{Cycle}
 use Rattle.m386_base.specs.Bytes.{bytes_of}
-use Rattle.m386_memory.specs.Contents.{Contents, written}
+use Rattle.m386_memory.specs.Contents.{Contents, with_written}
 
 -- these bytes of memory, and no port: memory past them reads as ones, a port as zeros, and what is written there is lost
 abbrev pub few : List ℕ → Contents
@@ -11,7 +11,7 @@ few bytes = record { memory = bytes; ports = [] }
 
 -- the bytes after an ask
 abbrev pub few_after : List ℕ → Ask → List ℕ
-few_after bytes ask = if ask.write then (written (few bytes) ask.space (bytes_of ask)).memory else bytes
+few_after bytes ask = if ask.write then (with_written (few bytes) ask.space (bytes_of ask)).memory else bytes
 
 -- the asks of cycles, in their order
 abbrev pub asks_in : List Cycle → List Ask

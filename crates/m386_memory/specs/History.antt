@@ -6,7 +6,7 @@ use Rattle.m386_base.specs.declared.ask.Space.{Space}
 use Rattle.m386_base.specs.Phrase.{space_number}
 use Rattle.m386_base.specs.Bus.{IsAsk}
 use Rattle.m386_base.specs.Bytes.{bytes_of, byte_at_place}
-use Rattle.m386_memory.specs.Contents.{Contents, byte_in, is_inside, Stand, SameSize}
+use Rattle.m386_memory.specs.Contents.{Contents, byte_in, holds_byte, Stand, SameSize}
 
 -- What contracts see of a record: the contents that it began with, and the cycles made since, in their order.
 pub record RecordView : Type 0 where
@@ -23,7 +23,7 @@ writes_in x s = x.ask.write && (space_number x.ask.space == space_number s)
 
 -- the byte at a place after a cycle, where this one stood there before
 abbrev pub byte_then : Contents → Cycle → Space → ℕ → ℕ → ℕ
-byte_then c x s a before = if writes_in x s && is_inside c s a then unwrap_or (byte_at_place (bytes_of x.ask) a) before else before
+byte_then c x s a before = if writes_in x s && holds_byte c s a then unwrap_or (byte_at_place (bytes_of x.ask) a) before else before
 
 -- The byte at a place after these cycles, the newest first: that of the last write that enables it, else that of the first
 -- contents. A write past the end of memory is lost.

@@ -1,7 +1,7 @@
 //! The four bytes of an aligned group, in and out of the bytes of one space.
 ghost use Rattle.std.specs.Prelude.{◌≡◌, slice_index_or, slice_set, if◌then◌else◌};
 ghost use Rattle.m386_base.specs.Bus.{IsEnabled};
-ghost use Rattle.m386_memory.specs.Contents.{group_of, value_of, group_bytes, with_bytes, Stand};
+ghost use Rattle.m386_memory.specs.Contents.{group_of, value_from, group_bytes, with_bytes, Stand};
 
 /// The byte at a place, and `beyond` where the place lies past the end.
 fn byte_at(bytes: &[u8], place: usize, beyond: u8) -> u8
@@ -16,7 +16,7 @@ fn byte_at(bytes: &[u8], place: usize, beyond: u8) -> u8
 
 /// The value of a group of these four bytes, with zeros for those that aren't enabled.
 fn value(enables: u8, b0: u8, b1: u8, b2: u8, b3: u8) -> u32
-    ensures { result ≡ value_of enables b0 b1 b2 b3 }
+    ensures { result ≡ value_from enables b0 b1 b2 b3 }
 {
     let part_0 = if enables & 1 == 0 { 0 } else { u32::from(b0) };
     let part_1 = if enables & 2 == 0 {

@@ -3,7 +3,7 @@ ghost use Rattle.std.specs.Prelude.{◌≡◌, ◌++◌, ◌∷◌, [], Some, tr
 ghost use Rattle.m386_base.specs.declared.ask.Space.{Space};
 ghost use Rattle.m386_base.specs.Bus.{IsAsk, IsEnabled, cycle_of};
 ghost use Rattle.m386_base.specs.Bytes.{bytes_of};
-ghost use Rattle.m386_memory.specs.Contents.{byte_in, group_in, group_of, written, SameSize, Stand};
+ghost use Rattle.m386_memory.specs.Contents.{byte_in, group_in, group_of, with_written, SameSize, Stand};
 ghost use Rattle.m386_memory.specs.History.{past, last_cpu, byte_after, IsHistory};
 
 use crate::store::Store;
@@ -49,7 +49,7 @@ fn answer(store: &Store, ask: Ask) -> u32
 
 /// What an ask does to the bytes.
 fn apply(store: &mut Store, ask: Ask)
-    ensures { store.new ≡ (if ask.write then written store.old ask.space (bytes_of ask) else store.old) }
+    ensures { store.new ≡ (if ask.write then with_written store.old ask.space (bytes_of ask) else store.old) }
 {
     if ask.write {
         store.write(ask.space, ask.addr, ask.enables, ask.value);

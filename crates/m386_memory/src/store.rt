@@ -1,7 +1,7 @@
 //! The bytes of memory and of the ports, all of them kept.
 ghost use Rattle.std.specs.Prelude.{◌≡◌, ◌≤◌, ◌+◌, ◌%◌, IfOk, length};
 ghost use Rattle.m386_base.specs.Bus.{IsEnabled};
-ghost use Rattle.m386_memory.specs.Contents.{IsSized, zeros, filled, byte_in, group_in, group_bytes, written, Stand};
+ghost use Rattle.m386_memory.specs.Contents.{IsSized, zeros, filled, byte_in, group_in, group_bytes, with_written, Stand};
 
 use crate::group;
 use m386_base::ask::Space;
@@ -82,7 +82,7 @@ impl Store {
 
     /// Writes the enabled bytes of the group at `addr`. What lies past the end of memory is lost.
     pub fn write(&mut self, space: Space, addr: u32, enables: u8, value: u32)
-        ensures { self.new ≡ written self.old space (group_bytes addr enables value) }
+        ensures { self.new ≡ with_written self.old space (group_bytes addr enables value) }
     {
         match space {
             Space::Memory => group::write(&mut self.memory, addr, enables, value),

@@ -5,10 +5,10 @@ use Rattle.std.proofs.lemmas.Bool.{lt-ltb, le-ltb, lt-leb, cases_lt}
 use Rattle.std.proofs.lemmas.List.{take_rest}
 use Rattle.m386_opmap.specs.declared.fields.Prefixes.{Prefixes}
 use Rattle.m386_opmap.specs.declared.row.Row.{Row}
-use Rattle.m386_opmap.specs.Forms.{middle}
+use Rattle.m386_opmap.specs.Forms.{middle_bits}
 use Rattle.m386_opmap.specs.Operands.{has_modrm}
 use Rattle.m386_opmap.specs.Readings.{tail_reading, selected_reading, modrm_reading, begun_reading, opcode_reading, second_reading}
-use Rattle.m386_opmap.specs.Rows.{row_at, row_of, covers, begins, rows_below, counts_from, rows_from}
+use Rattle.m386_opmap.specs.Rows.{row_at, row_of, covers_key, begins, rows_below, counts_from, rows_from}
 
 -- the count at a place
 pub counts_at : (opcode n i : ℕ) (rows : List Row) → i < n → get_or (counts_from opcode n rows) i 0 ≡ rows_below (8 * (opcode + 8 * i)) rows
@@ -53,7 +53,7 @@ fails_middle false c = refl
 row_at_from : (opcode mid : ℕ) (rows : List Row) → row_at (8 * opcode + mid) (rows_from opcode rows) ≡ row_at (8 * opcode + mid) rows
 unfolding row_at rows_from
 row_at_from opcode mid rows =
-    find_from (covers (8 * opcode + mid)) (8 * (opcode / 8 * 8)) rows
+    find_from (covers_key (8 * opcode + mid)) (8 * (opcode / 8 * 8)) rows
     (λ r low.
     let above : r.high < 8 * opcode + mid = omega arith in
     rw (lt-leb (8 * opcode + mid) r.high above) (fails_second (nat_le r.low (8 * opcode + mid))))
@@ -71,7 +71,7 @@ module _ (rows : List Row) (said : Prefixes) (opcode at : ℕ) where
   unfolding modrm_reading
   modrm_from at [] = refl
   modrm_from at (m ∷ bytes) =
-      ap (λ x. selected_reading x (record { prefixes = said; opcode = opcode; middle = middle m; place = None }) m at bytes) (row_at_from opcode (middle m) rows)
+      ap (λ x. selected_reading x (record { prefixes = said; opcode = opcode; middle = middle_bits m; place = None }) m at bytes) (row_at_from opcode (middle_bits m) rows)
 
   begun_from : (found : Option Row) (bytes : List ℕ) → begun_reading found (rows_from opcode rows) said opcode at bytes ≡ begun_reading found rows said opcode at bytes
   begun_from None bytes = refl

@@ -12,11 +12,11 @@ use Rattle.m386_opmap.specs.declared.op.Arg.TheVariants.{Reg, Mem}
 use Rattle.m386_opmap.specs.declared.op.Op.{Op}
 use Rattle.m386_opmap.specs.declared.outcome.Reading.TheVariants.{Spelled}
 use Rattle.m386_opmap.specs.declared.row.Row.{Row}
-use Rattle.m386_opmap.specs.Forms.{Form, absent, register, based, indexed, top, middle, low, displacement, displacement_length, base_of, index_of, scale_of}
+use Rattle.m386_opmap.specs.Forms.{Form, absent, register, based, indexed, top_bits, middle_bits, low, displacement, displacement_length, base_of, index_of, scale_of}
 use Rattle.m386_opmap.specs.Operands.{has_modrm, suits, is_memory, wants_memory, wants_register, tail_length, operation}
 use Rattle.m386_opmap.specs.Prefix.{is_prefix, no_prefixes, prefixes_of}
 use Rattle.m386_opmap.specs.Readings.{tail_reading, displaced_reading, sib_reading, form_reading, modrm_reading, begun_reading, opcode_reading, second_reading, first_reading, prefixed_reading, reading_by, with_place}
-use Rattle.m386_opmap.specs.Rows.{row_at, row_of, covers, begins, Covers}
+use Rattle.m386_opmap.specs.Rows.{row_at, row_of, covers_key, begins, Covers}
 use Rattle.m386_opmap.specs.Spelling.{SpelledBy, opcode_bytes}
 use Rattle.m386_opmap.proofs.Lawful.{Lawful, lawful_row, begins_from, begins_like, IsOpcode, byte, pair, opcode_of_row}
 use Rattle.m386_opmap.proofs.Prefixing.{prefixed_walk, said_after-none}
@@ -40,24 +40,24 @@ displaced_walk r f address n at end ds bytes h e =
     rw (le-ltb (length (ds ++ bytes)) n long, take_at ds bytes n h, drop_at ds bytes n h, ← h, e) refl
 
 module _ (r : Row) (f : Fields) (at : ℕ) where
-  form_register : (m : ℕ) (bytes : List ℕ) → top m ≡ 3 → form_reading r f m at bytes ≡ tail_reading r (with_place f (Reg (low m))) at bytes
+  form_register : (m : ℕ) (bytes : List ℕ) → top_bits m ≡ 3 → form_reading r f m at bytes ≡ tail_reading r (with_place f (Reg (low m))) at bytes
   unfolding form_reading
-  form_register m bytes h = rw (eq-eqb (top m) 3 h) refl
+  form_register m bytes h = rw (eq-eqb (top_bits m) 3 h) refl
 
-  form_based : (m : ℕ) (bytes : List ℕ) → top m ≢ 3 → low m ≢ 4 →
-      form_reading r f m at bytes ≡ displaced_reading r f (record { seg = f.prefixes.seg; base = base_of (top m) (low m); index = None; scale = 1; disp = 0 }) (displacement_length (top m) (low m)) at bytes
+  form_based : (m : ℕ) (bytes : List ℕ) → top_bits m ≢ 3 → low m ≢ 4 →
+      form_reading r f m at bytes ≡ displaced_reading r f (record { seg = f.prefixes.seg; base = base_of (top_bits m) (low m); index = None; scale = 1; disp = 0 }) (displacement_length (top_bits m) (low m)) at bytes
   unfolding form_reading
-  form_based m bytes h k = rw (ne_eqb (top m) 3 h) (rw (ne_eqb (low m) 4 k) refl)
+  form_based m bytes h k = rw (ne_eqb (top_bits m) 3 h) (rw (ne_eqb (low m) 4 k) refl)
 
-  form_indexed : (m s : ℕ) (bytes : List ℕ) → top m ≢ 3 → low m ≡ 4 →
-      form_reading r f m at (s ∷ bytes) ≡ displaced_reading r f (record { seg = f.prefixes.seg; base = base_of (top m) (low s); index = index_of s; scale = scale_of s; disp = 0 }) (displacement_length (top m) (low s)) (at + 1) bytes
+  form_indexed : (m s : ℕ) (bytes : List ℕ) → top_bits m ≢ 3 → low m ≡ 4 →
+      form_reading r f m at (s ∷ bytes) ≡ displaced_reading r f (record { seg = f.prefixes.seg; base = base_of (top_bits m) (low s); index = index_of s; scale = scale_of s; disp = 0 }) (displacement_length (top_bits m) (low s)) (at + 1) bytes
   unfolding form_reading sib_reading
-  form_indexed m s bytes h k = rw (ne_eqb (top m) 3 h) (rw (eq-eqb (low m) 4 k) refl)
+  form_indexed m s bytes h k = rw (ne_eqb (top_bits m) 3 h) (rw (eq-eqb (low m) 4 k) refl)
 
 -- a ModRM byte of a row that takes it
-modrm_select : (rows : List Row) (said : Prefixes) (o at m : ℕ) (bytes : List ℕ) (r : Row) → row_at (8 * o + middle m) rows ≡ Some r →
-    suits r said.lock (not (top m == 3)) ≡ true →
-    modrm_reading rows said o at (m ∷ bytes) ≡ form_reading r (record { prefixes = said; opcode = o; middle = middle m; place = None }) m (at + 1) bytes
+modrm_select : (rows : List Row) (said : Prefixes) (o at m : ℕ) (bytes : List ℕ) (r : Row) → row_at (8 * o + middle_bits m) rows ≡ Some r →
+    suits r said.lock (not (top_bits m == 3)) ≡ true →
+    modrm_reading rows said o at (m ∷ bytes) ≡ form_reading r (record { prefixes = said; opcode = o; middle = middle_bits m; place = None }) m (at + 1) bytes
 unfolding modrm_reading
 modrm_select rows said o at m bytes r e s = rw e (rw s refl)
 
@@ -67,15 +67,15 @@ pub modrm_walk : (rows : List Row) (said : Prefixes) (o at end : ℕ) (modrm byt
     modrm_reading rows said o at (modrm ++ bytes) ≡ tail_reading r (record { prefixes = said; opcode = o; middle = mid; place = place }) end bytes
 modrm_walk rows said o at end modrm bytes mid place r absent p e s l = cc
 modrm_walk rows said o at end modrm bytes mid place r (register m h) p e s l =
-    let test : suits r said.lock (not (top m == 3)) ≡ true = rw (eq-eqb (top m) 3 h) s in
+    let test : suits r said.lock (not (top_bits m == 3)) ≡ true = rw (eq-eqb (top_bits m) 3 h) s in
     rw l (modrm_select rows said o at m bytes r e test ∙ form_register r _ (at + 1) m bytes h)
 modrm_walk rows said o at end modrm bytes mid place r (based m ds h k n) p e s l =
-    let test : suits r said.lock (not (top m == 3)) ≡ true = rw (ne_eqb (top m) 3 h) s in
+    let test : suits r said.lock (not (top_bits m == 3)) ≡ true = rw (ne_eqb (top_bits m) 3 h) s in
     modrm_select rows said o at m (ds ++ bytes) r e test
     ∙ form_based r _ (at + 1) m (ds ++ bytes) h k
     ∙ displaced_walk r _ _ _ (at + 1) end ds bytes n (omega (arith, l))
 modrm_walk rows said o at end modrm bytes mid place r (indexed m s ds h k n) p e t l =
-    let test : suits r said.lock (not (top m == 3)) ≡ true = rw (ne_eqb (top m) 3 h) t in
+    let test : suits r said.lock (not (top_bits m == 3)) ≡ true = rw (ne_eqb (top_bits m) 3 h) t in
     modrm_select rows said o at m (s ∷ ds ++ bytes) r e test
     ∙ form_indexed r _ (at + 1) m s (ds ++ bytes) h k
     ∙ displaced_walk r _ _ _ (at + 1 + 1) end ds bytes n (omega (arith, l))
@@ -146,7 +146,7 @@ suits_lock r lock memory h =
 pub row_at_row : (rows : List Row) (r : Row) (key : ℕ) → Lawful rows → Contains rows r → Covers r key → row_at key rows ≡ Some r
 unfolding row_at
 row_at_row rows r key law c k =
-    let f = search_finds (covers key) rows r c (and_from (nat_le r.low key) (nat_le key r.high) (le-leb r.low key k.0) (le-leb key r.high k.1)) in
+    let f = search_finds (covers_key key) rows r c (and_from (nat_le r.low key) (nat_le key r.high) (le-leb r.low key k.0) (le-leb key r.high k.1)) in
     let p = and_parts (nat_le f.row.low key) (nat_le key f.row.high) f.passes in
     f.found ∙ ap Some (one_covers 0 rows f.row r key law.rise f.listed c (leb-true f.row.low key p.0, leb-true key f.row.high p.1) k)
 

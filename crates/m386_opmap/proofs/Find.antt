@@ -11,7 +11,7 @@ use Rattle.m386_opmap.specs.declared.outcome.Reading.TheVariants.{More}
 use Rattle.m386_opmap.specs.declared.outcome.Reading.{Reading}
 use Rattle.m386_opmap.specs.Prefix.{is_prefix, with_prefix}
 use Rattle.m386_opmap.specs.Readings.{prefixed_reading, first_reading}
-use Rattle.m386_opmap.specs.Rows.{row_at, row_of, covers, begins}
+use Rattle.m386_opmap.specs.Rows.{row_at, row_of, covers_key, begins}
 
 -- what stands past the end of a list of rows
 abbrev none : Row
@@ -27,11 +27,11 @@ find_none test rs i h = rw (drop_all i rs h) refl
 pub row_at_next : (key : ℕ) (rs : List Row) (i : ℕ) → i < length rs →
     row_at key (drop i rs) ≡ cond (nat_le (get_or rs i none).low key && nat_le key (get_or rs i none).high) (Some (get_or rs i none)) (row_at key (drop (i + 1) rs))
 unfolding row_at
-row_at_next key rs i h = find_more (covers key) rs i h
+row_at_next key rs i h = find_more (covers_key key) rs i h
 
 pub row_at_end : (key : ℕ) (rs : List Row) (i : ℕ) → length rs ≤ i → row_at key (drop i rs) ≡ None
 unfolding row_at
-row_at_end key rs i h = find_none (covers key) rs i h
+row_at_end key rs i h = find_none (covers_key key) rs i h
 
 pub row_of_next : (lock : Bool) (opcode : ℕ) (rs : List Row) (i : ℕ) → i < length rs →
     row_of lock opcode (drop i rs) ≡ cond (nat_le (get_or rs i none).low (8 * opcode + 7) && nat_le (8 * opcode) (get_or rs i none).high && (not lock || (get_or rs i none).lock)) (Some (get_or rs i none)) (row_of lock opcode (drop (i + 1) rs))

@@ -52,8 +52,8 @@ lawful_row rows r law c = All-contains (λ x. is_lawful x ≡ true) rows r (AllP
 pub selected : (r : Row) → is_lawful r ≡ true → has_modrm r ≡ true → is_selected r ≡ true
 selected r h m = sym (cond-true (has_modrm r) (is_selected r) (is_whole r) m) ∙ (and_parts _ _ h).0
 
-pub whole : (r : Row) → is_lawful r ≡ true → has_modrm r ≡ false → is_whole r ≡ true
-whole r h m = sym (cond-false (has_modrm r) (is_selected r) (is_whole r) m) ∙ (and_parts _ _ h).0
+pub lawful_is_whole : (r : Row) → is_lawful r ≡ true → has_modrm r ≡ false → is_whole r ≡ true
+lawful_is_whole r h m = sym (cond-false (has_modrm r) (is_selected r) (is_whole r) m) ∙ (and_parts _ _ h).0
 
 -- a row without a ModRM byte covers all eight keys of its opcodes, and has no LOCK
 pub record IsWhole (r : Row) : Type 0 where
@@ -63,7 +63,7 @@ pub record IsWhole (r : Row) : Type 0 where
 
 pub whole_row : (r : Row) → is_lawful r ≡ true → has_modrm r ≡ false → IsWhole r
 whole_row r h m =
-    let p = and_parts ((r.low % 8 == 0) && (r.high % 8 == 7)) (not r.lock) (whole r h m) in
+    let p = and_parts ((r.low % 8 == 0) && (r.high % 8 == 7)) (not r.lock) (lawful_is_whole r h m) in
     let q = and_parts (r.low % 8 == 0) (r.high % 8 == 7) p.0 in
     record { from = eqb-true (r.low % 8) 0 q.0; to = eqb-true (r.high % 8) 7 q.1; unlocked = not-true r.lock p.1 }
 
@@ -73,8 +73,8 @@ pub record IsBegun (lock : Bool) (o : ℕ) (r : Row) : Type 0 where
   pub high : 8 * o ≤ r.high
   pub locked : not lock || r.lock ≡ true
 
-pub begun : (lock : Bool) (o : ℕ) (r : Row) → begins lock o r ≡ true → IsBegun lock o r
-begun lock o r h =
+pub begins_is_begun : (lock : Bool) (o : ℕ) (r : Row) → begins lock o r ≡ true → IsBegun lock o r
+begins_is_begun lock o r h =
     let p = and_parts (nat_le r.low (8 * o + 7) && nat_le (8 * o) r.high) (not lock || r.lock) h in
     let q = and_parts (nat_le r.low (8 * o + 7)) (nat_le (8 * o) r.high) p.0 in
     record { low = leb-true r.low (8 * o + 7) q.0; high = leb-true (8 * o) r.high q.1; locked = p.1 }
@@ -108,7 +108,7 @@ pub opcode_of_row : (o : ℕ) (r : Row) → is_lawful r ≡ true → begins fals
 unfolding is_prefix
 opcode_of_row o r h b =
     let p = and_parts (is_ranged r) (is_apart r) (and_parts (if has_modrm r then is_selected r else is_whole r) (is_ranged r && is_apart r) h).1 in
-    let i = begun false o r b in
+    let i = begins_is_begun false o r b in
     let apart = or_parts (o == 0x0f) (list_any (λ q. o == q) prefix_bytes) (not_among (λ x. begins false x r) (0x0f ∷ prefix_bytes) o p.1 b) in
     elim (or_cases (nat_lt r.high 2048) (nat_le 30720 r.low && nat_lt r.high 32768) p.0) [
       | inl e ↦ (let l : r.high < 2048 = ltb-true r.high 2048 e in byte (omega (arith, i.high)) apart.1 apart.0)
@@ -126,14 +126,14 @@ pub record BeginsLike (r s : Row) : Type 0 where
 begins_whole : (rows : List Row) (lock : Bool) (o n : ℕ) (r s : Row) → Lawful rows → Contains rows r → Contains rows s → n < 8 →
     Covers r (8 * o + n) → begins lock o s ≡ true → has_modrm s ≡ false → s ≡ r
 begins_whole rows lock o n r s law cr cs small c b m =
-    let i = begun lock o s b in
+    let i = begins_is_begun lock o s b in
     let w = whole_row s (lawful_row rows s law cs) m in
     one_covers 0 rows s r (8 * o + n) law.rise cs cr (omega (arith, i.low, w.from), omega (arith, i.high, w.to)) c
 
 begins_selected : (rows : List Row) (lock : Bool) (o n : ℕ) (r s : Row) → Lawful rows → Contains rows r → Contains rows s → n < 8 →
     Covers r (8 * o + n) → begins lock o s ≡ true → has_modrm r ≡ false → s ≡ r
 begins_selected rows lock o n r s law cr cs small c b m =
-    let i = begun lock o s b in
+    let i = begins_is_begun lock o s b in
     let w = whole_row r (lawful_row rows r law cr) m in
     let bounds = rising_bounds 0 rows s law.rise cs in
     elim (cases_lt s.low (8 * o)) [

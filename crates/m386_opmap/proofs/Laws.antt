@@ -11,7 +11,7 @@ use Rattle.m386_opmap.proofs.Complete.{complete}
 use Rattle.m386_opmap.proofs.Lawful.{opcodes_lawful}
 use Rattle.m386_opmap.proofs.OneRow.{one_row}
 use Rattle.m386_opmap.proofs.ReadingOutcomes.{outcome}
-use Rattle.m386_opmap.proofs.Sound.{AreBytes, Outcome, Fronts, Stops, front_bytes}
+use Rattle.m386_opmap.proofs.Sound.{AllAreBytes, Outcome, Fronts, RefusedAt, front_bytes}
 
 -- what is spelled is read, whatever follows
 pub spelled_reads : (op : Op) (front rest : List ℕ) → Spells op front → reading_of (front ++ rest) ≡ Spelled op (length front)
@@ -34,7 +34,7 @@ no_longer_spelling op other bytes rest s t =
     nil_from_length rest (omega (arith, l, length-append bytes rest))
 
 -- what the function on bytes answers has its cause in them
-outcome_of : (bytes : List ℕ) → AreBytes bytes → Outcome opcode_rows bytes (reading_of bytes)
+outcome_of : (bytes : List ℕ) → AllAreBytes bytes → Outcome opcode_rows bytes (reading_of bytes)
 unfolding reading_of
 outcome_of bytes are = outcome opcode_rows opcodes_lawful bytes are
 
@@ -44,7 +44,7 @@ begins_at_more bytes (Spelled op len) e o = cc
 begins_at_more bytes More e o = record { op = o.op; rest = o.rest; spelled = o.spelled }
 begins_at_more bytes (Refused at) e o = cc
 
-more_begins : (bytes : List ℕ) → AreBytes bytes → reading_of bytes ≡ More → BeginsSpelling bytes
+more_begins : (bytes : List ℕ) → AllAreBytes bytes → reading_of bytes ≡ More → BeginsSpelling bytes
 more_begins bytes are e = begins_at_more bytes (reading_of bytes) e (outcome_of bytes are)
 
 -- bytes that don't read as an operation have none at their front
@@ -62,7 +62,7 @@ none_begins front byte at after b =
     let r : reading_of (front ++ byte ∷ b.rest) ≡ Refused at = after b.rest in
     cc
 
-stops_reading : (bytes : List ℕ) (at : ℕ) → AreBytes bytes → reading_of bytes ≡ Refused at → Stops opcode_rows bytes at → IsReadingOf bytes (Refused at)
+stops_reading : (bytes : List ℕ) (at : ℕ) → AllAreBytes bytes → reading_of bytes ≡ Refused at → RefusedAt opcode_rows bytes at → IsReadingOf bytes (Refused at)
 unfolding reading_of
 stops_reading bytes at are e o =
     let whole : length bytes ≡ length o.front + length (o.byte ∷ o.rest) = ap length o.parts ∙ length-append o.front (o.byte ∷ o.rest) in
@@ -71,8 +71,8 @@ stops_reading bytes at are e o =
     let one : at + 1 ≡ length (o.front ++ o.byte ∷ []) = omega (arith, o.size, length-append o.front (o.byte ∷ [])) in
     let next : take (at + 1) bytes ≡ o.front ++ o.byte ∷ [] = front_taken bytes (o.front ++ o.byte ∷ []) o.rest (at + 1) longer one in
     let B : List ℕ → Type 0 = BeginsSpelling in
-    let P : List ℕ → Type 0 = AreBytes in
-    let front_are : AreBytes o.front = front_bytes o.front (o.byte ∷ o.rest) (subst P o.parts are) in (
+    let P : List ℕ → Type 0 = AllAreBytes in
+    let front_are : AllAreBytes o.front = front_bytes o.front (o.byte ∷ o.rest) (subst P o.parts are) in (
       no_spelling bytes (Refused at) e (λ op len f. cc),
       (
         omega (arith, o.size, whole),
@@ -83,7 +83,7 @@ stops_reading bytes at are e o =
       ),
     )
 
-reading_at : (bytes : List ℕ) (x : Reading) → AreBytes bytes → reading_of bytes ≡ x → Outcome opcode_rows bytes x → IsReadingOf bytes x
+reading_at : (bytes : List ℕ) (x : Reading) → AllAreBytes bytes → reading_of bytes ≡ x → Outcome opcode_rows bytes x → IsReadingOf bytes x
 reading_at bytes (Spelled op len) are e o =
     let front : take len bytes ≡ o.front = front_taken bytes o.front o.rest len o.parts o.size in
     let S : List ℕ → Type 0 = λ x. Spells op x in
@@ -92,7 +92,7 @@ reading_at bytes More are e o = (no_spelling bytes More e (λ op len f. cc), rec
 reading_at bytes (Refused at) are e o = stops_reading bytes at are e o
 
 -- the function on bytes answers what its answer says
-pub reading_is : (bytes : List ℕ) → AreBytes bytes → IsReadingOf bytes (reading_of bytes)
+pub reading_is : (bytes : List ℕ) → AllAreBytes bytes → IsReadingOf bytes (reading_of bytes)
 reading_is bytes are = reading_at bytes (reading_of bytes) are refl (outcome_of bytes are)
 
 stays_spelled : (bytes rest : List ℕ) (op : Op) (len : ℕ) → Fronts opcode_rows bytes op len → reading_of (bytes ++ rest) ≡ Spelled op len
@@ -100,24 +100,24 @@ stays_spelled bytes rest op len o =
     ap (λ x. reading_of (x ++ rest)) o.parts ∙ ap reading_of (append_assoc o.front o.rest rest)
     ∙ spelled_reads op o.front (o.rest ++ rest) o.spelled ∙ ap (λ n. Spelled op n) (sym o.size)
 
-stays_refused : (bytes rest : List ℕ) (at : ℕ) → Stops opcode_rows bytes at → reading_of (bytes ++ rest) ≡ Refused at
+stays_refused : (bytes rest : List ℕ) (at : ℕ) → RefusedAt opcode_rows bytes at → reading_of (bytes ++ rest) ≡ Refused at
 unfolding reading_of
 stays_refused bytes rest at o =
     ap (λ x. reading_of (x ++ rest)) o.parts ∙ ap reading_of (append_assoc o.front (o.byte ∷ o.rest) rest) ∙ o.after (o.rest ++ rest)
 
 -- More is no answer that stays
-abbrev pub IsAnswered : Reading → Type 0
-IsAnswered (Spelled op len) = Unit {0}
-IsAnswered More = ⊥
-IsAnswered (Refused at) = Unit {0}
+abbrev pub IsFinal : Reading → Type 0
+IsFinal (Spelled op len) = Unit {0}
+IsFinal More = ⊥
+IsFinal (Refused at) = Unit {0}
 
-stays : (bytes rest : List ℕ) (x : Reading) → Outcome opcode_rows bytes x → IsAnswered x → reading_of (bytes ++ rest) ≡ x
+stays : (bytes rest : List ℕ) (x : Reading) → Outcome opcode_rows bytes x → IsFinal x → reading_of (bytes ++ rest) ≡ x
 stays bytes rest (Spelled op len) o a = stays_spelled bytes rest op len o
 stays bytes rest More o a = absurd a
 stays bytes rest (Refused at) o a = stays_refused bytes rest at o
 
 -- an operation or a refusal stays, whatever bytes follow
-pub reading_stays : (bytes rest : List ℕ) → AreBytes bytes → IsAnswered (reading_of bytes) → reading_of (bytes ++ rest) ≡ reading_of bytes
+pub reading_stays : (bytes rest : List ℕ) → AllAreBytes bytes → IsFinal (reading_of bytes) → reading_of (bytes ++ rest) ≡ reading_of bytes
 reading_stays bytes rest are a = stays bytes rest (reading_of bytes) (outcome_of bytes are) a
 
 -- an answer that comes with the last byte: the spelling has all the bytes, or the last one is refused
@@ -158,7 +158,7 @@ ends bytes b More more o = tt
 ends bytes b (Refused at) more o = ends_refused bytes b at o.front o.byte o.rest more o.parts o.size o.after
 
 -- where bytes want more, the next byte ends the spelling, or is refused, or more is wanted again
-pub reading_ends : (bytes : List ℕ) (b : ℕ) → AreBytes (bytes ++ b ∷ []) → reading_of bytes ≡ More → IsAtEnd (bytes ++ b ∷ []) (reading_of (bytes ++ b ∷ []))
+pub reading_ends : (bytes : List ℕ) (b : ℕ) → AllAreBytes (bytes ++ b ∷ []) → reading_of bytes ≡ More → IsAtEnd (bytes ++ b ∷ []) (reading_of (bytes ++ b ∷ []))
 reading_ends bytes b are more = ends bytes b (reading_of (bytes ++ b ∷ [])) more (outcome_of (bytes ++ b ∷ []) are)
 
 -- no bytes yet want more

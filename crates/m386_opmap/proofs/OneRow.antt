@@ -7,7 +7,7 @@ use Rattle.std.proofs.lemmas.List.Elements.{All-head, All-tail}
 use Rattle.m386_opmap.specs.declared.op.Arg.{Arg}
 use Rattle.m386_opmap.specs.declared.op.Op.{Op}
 use Rattle.m386_opmap.specs.declared.row.Row.{Row}
-use Rattle.m386_opmap.specs.Forms.{Form, absent, register, based, indexed, middle}
+use Rattle.m386_opmap.specs.Forms.{Form, absent, register, based, indexed, middle_bits}
 use Rattle.m386_opmap.specs.Operands.{has_modrm}
 use Rattle.m386_opmap.specs.Prefix.{is_prefix}
 use Rattle.m386_opmap.specs.Rows.{begins, Covers}
@@ -84,7 +84,7 @@ record IsHead (modrm : List ℕ) (mid : ℕ) : Type 0 where
   pub first : ℕ
   pub rest : List ℕ
   pub parts : modrm ≡ first ∷ rest
-  pub bits : mid ≡ middle first
+  pub bits : mid ≡ middle_bits first
 
 form_head : {seg : Option ℕ} {modrm : List ℕ} {mid : ℕ} {place : Option Arg} → Form seg modrm mid place → is_some place ≡ true → IsHead modrm mid
 form_head absent h = cc
@@ -96,7 +96,7 @@ same_middle : (xs ys : List ℕ) (tail rest : List ℕ) (m n : ℕ) → IsHead x
 same_middle xs ys tail rest m n a b e =
     let f : a.first ∷ (a.rest ++ tail) ≡ b.first ∷ (b.rest ++ rest) = ap (λ x. x ++ tail) (sym a.parts) ∙ e ∙ ap (λ x. x ++ rest) b.parts in
     let same : a.first ≡ b.first = cc in
-    a.bits ∙ ap middle same ∙ sym b.bits
+    a.bits ∙ ap middle_bits same ∙ sym b.bits
 
 -- the opcode of a spelling
 opcode_is : (rows : List Row) (op : Op) (bytes : List ℕ) → Lawful rows → (s : SpelledBy rows op bytes) → begins false s.opcode s.row ≡ true

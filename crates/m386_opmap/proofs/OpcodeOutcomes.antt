@@ -14,9 +14,9 @@ use Rattle.m386_opmap.specs.Prefix.{is_prefix, prefixes_of}
 use Rattle.m386_opmap.specs.Readings.{modrm_reading, begun_reading, opcode_reading, reading_by, tail_reading}
 use Rattle.m386_opmap.specs.Rows.{row_of, begins}
 use Rattle.m386_opmap.specs.Spelling.{opcode_bytes}
-use Rattle.m386_opmap.proofs.Lawful.{Lawful, lawful_row, whole_row, begun}
+use Rattle.m386_opmap.proofs.Lawful.{Lawful, lawful_row, whole_row, begins_is_begun}
 use Rattle.m386_opmap.proofs.Complete.{begun_modrm}
-use Rattle.m386_opmap.proofs.Sound.{AreBytes, Outcome, Opens, respelled, one_more, length_more, tail_outcome}
+use Rattle.m386_opmap.proofs.Sound.{AllAreBytes, Outcome, Opens, spelled_again, bytes_more, length_more, tail_outcome}
 use Rattle.m386_opmap.proofs.Outcomes.{fields_at, spelled_by, opens, modrm_outcome}
 use Rattle.m386_opmap.proofs.Table.{found_is}
 
@@ -53,10 +53,10 @@ module _ (rows : List Row) (law : Lawful rows) (ps : List ℕ) (prefixes : All (
   unfolding opcode_reading
   found_reads found e next = reads next ∙ ap (λ x. begun_reading x rows (prefixes_of ps) o at next) e
 
-  whole_outcome : (s : Row) → Contains rows s → begins (prefixes_of ps).lock o s ≡ true → has_modrm s ≡ false → (bytes : List ℕ) → AreBytes ((ps ++ opcode_bytes o) ++ bytes) →
+  whole_outcome : (s : Row) → Contains rows s → begins (prefixes_of ps).lock o s ≡ true → has_modrm s ≡ false → (bytes : List ℕ) → AllAreBytes ((ps ++ opcode_bytes o) ++ bytes) →
       Outcome rows ((ps ++ opcode_bytes o) ++ bytes) (tail_reading s (fields_at ps o 0 None) (at + 1) bytes)
   whole_outcome s listed begin without bytes are =
-      let b = begun (prefixes_of ps).lock o s begin in
+      let b = begins_is_begun (prefixes_of ps).lock o s begin in
       let w = whole_row s (lawful_row rows s law listed) without in
       tail_outcome rows (ps ++ opcode_bytes o) (at + 1) s (fields_at ps o 0 None) size
       (λ tail n all. spelled_by rows s ps o [] tail 0 None listed prefixes all absent without
@@ -64,7 +64,7 @@ module _ (rows : List Row) (law : Lawful rows) (ps : List ℕ) (prefixes : All (
       (suits_whole (prefixes_of ps).lock s.lock (wants_memory s) (wants_register s) b.locked w.unlocked (no_memory s without)) n)
       bytes are
 
-  begun_outcome : (found : Option Row) → row_of (prefixes_of ps).lock o rows ≡ found → (bytes : List ℕ) → AreBytes ((ps ++ opcode_bytes o) ++ bytes) →
+  begun_outcome : (found : Option Row) → row_of (prefixes_of ps).lock o rows ≡ found → (bytes : List ℕ) → AllAreBytes ((ps ++ opcode_bytes o) ++ bytes) →
       Outcome rows ((ps ++ opcode_bytes o) ++ bytes) (begun_reading found rows (prefixes_of ps) o at bytes)
   unfolding row_of
   begun_outcome None e bytes are =
@@ -77,7 +77,7 @@ module _ (rows : List Row) (law : Lawful rows) (ps : List ℕ) (prefixes : All (
       s is.listed is.passes t bytes are)
       (λ t. whole_outcome s is.listed is.passes t bytes are)
 
-  pub opcode_outcome : (bytes : List ℕ) → AreBytes ((ps ++ opcode_bytes o) ++ bytes) →
+  pub opcode_outcome : (bytes : List ℕ) → AllAreBytes ((ps ++ opcode_bytes o) ++ bytes) →
       Outcome rows ((ps ++ opcode_bytes o) ++ bytes) (opcode_reading rows (prefixes_of ps) o at bytes)
   unfolding opcode_reading
   opcode_outcome bytes are = begun_outcome (row_of (prefixes_of ps).lock o rows) refl bytes are
@@ -94,13 +94,13 @@ some_row None h = cc
 some_row (Some r) h = (r, refl)
 
 -- an opcode of a row with LOCK begins a spelling
-opens_locked : (rows : List Row) (law : Lawful rows) (ps : List ℕ) (prefixes : All (λ p. is_prefix p ≡ true) ps) (o : ℕ) → AreBytes (ps ++ opcode_bytes o) →
+opens_locked : (rows : List Row) (law : Lawful rows) (ps : List ℕ) (prefixes : All (λ p. is_prefix p ≡ true) ps) (o : ℕ) → AllAreBytes (ps ++ opcode_bytes o) →
     is_some (row_of true o rows) ≡ true → Opens rows (ps ++ opcode_bytes o)
 unfolding row_of
 opens_locked rows law ps prefixes o are h =
     let f = some_row (row_of true o rows) h in
     let is = found_is (begins true o) rows f.0 f.1 in
-    let b = begun true o f.0 is.passes in
+    let b = begins_is_begun true o f.0 is.passes in
     elim (cases_Bool (has_modrm f.0)) [
       | inl with ↦ opens rows law ps prefixes o are f.0 is.listed (any_lock (prefixes_of ps).lock o f.0 is.passes) with
       | inr without ↦ absurd (both_ways f.0.lock (whole_row f.0 (lawful_row rows f.0 law is.listed) without).unlocked b.locked)
@@ -109,18 +109,18 @@ opens_locked rows law ps prefixes o are h =
 -- where a spelling begins with more bytes, it begins with these
 opens_front : (rows : List Row) (bytes more whole : List ℕ) → bytes ++ more ≡ whole → Opens rows whole → Opens rows bytes
 opens_front rows bytes more whole e o =
-    record { op = o.op; rest = more ++ o.rest; spelled = respelled rows _ _ _ (ap (λ x. x ++ o.rest) (sym e) ∙ append_assoc bytes more o.rest) o.spelled }
+    record { op = o.op; rest = more ++ o.rest; spelled = spelled_again rows _ _ _ (ap (λ x. x ++ o.rest) (sym e) ∙ append_assoc bytes more o.rest) o.spelled }
 
 -- prefixes begin a spelling
-pub opens_prefixes : (rows : List Row) (law : Lawful rows) (ps : List ℕ) (prefixes : All (λ p. is_prefix p ≡ true) ps) → AreBytes ps → Opens rows ps
+pub opens_prefixes : (rows : List Row) (law : Lawful rows) (ps : List ℕ) (prefixes : All (λ p. is_prefix p ≡ true) ps) → AllAreBytes ps → Opens rows ps
 opens_prefixes rows law ps prefixes are =
     opens_front rows ps (0 ∷ []) (ps ++ 0 ∷ []) refl
     (opens_locked rows law ps prefixes 0 (All-push (λ b. b < 256) ps 0 are (omega arith)) law.opens)
 
 -- and so does the byte 0F behind them
-pub opens_escape : (rows : List Row) (law : Lawful rows) (ps : List ℕ) (prefixes : All (λ p. is_prefix p ≡ true) ps) → AreBytes ps → Opens rows (ps ++ 0x0f ∷ [])
+pub opens_escape : (rows : List Row) (law : Lawful rows) (ps : List ℕ) (prefixes : All (λ p. is_prefix p ≡ true) ps) → AllAreBytes ps → Opens rows (ps ++ 0x0f ∷ [])
 opens_escape rows law ps prefixes are =
-    opens_front rows (ps ++ 0x0f ∷ []) (0xab ∷ []) (ps ++ 0x0f ∷ 0xab ∷ []) (one_more ps 0x0f (0xab ∷ []))
+    opens_front rows (ps ++ 0x0f ∷ []) (0xab ∷ []) (ps ++ 0x0f ∷ 0xab ∷ []) (bytes_more ps 0x0f (0xab ∷ []))
     (opens_locked rows law ps prefixes 0xfab
     (All-append (λ b. b < 256) ps (0x0f ∷ 0xab ∷ []) are (All-cons (λ b. b < 256) 0x0f (0xab ∷ []) (omega arith) (All-cons (λ b. b < 256) 0xab [] (omega arith) (All-nil (λ b. b < 256)))))
     law.opens_second)

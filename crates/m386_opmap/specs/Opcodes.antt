@@ -18,8 +18,8 @@ abbrev pub settings : List Name
 settings = Seto ∷ Setno ∷ Setb ∷ Setae ∷ Sete ∷ Setne ∷ Setbe ∷ Seta ∷ Sets ∷ Setns ∷ Setp ∷ Setnp ∷ Setl ∷ Setge ∷ Setle ∷ Setg ∷ []
 
 -- the operand at a place, Absent behind the last
-abbrev pub place : ℕ → List Operand → Operand
-place i operands = slice_index_or operands i Absent
+abbrev pub operand_at : ℕ → List Operand → Operand
+operand_at i operands = slice_index_or operands i Absent
 
 -- a row from one key to another, with or without LOCK
 abbrev pub keys : ℕ → ℕ → Name → Size → List Operand → Bool → Row
@@ -29,9 +29,9 @@ keys low high name size operands lock =
       high = high;
       name = name;
       size = size;
-      first = place 0 operands;
-      second = place 1 operands;
-      third = place 2 operands;
+      first = operand_at 0 operands;
+      second = operand_at 1 operands;
+      third = operand_at 2 operands;
       lock = lock;
       newer = false;
     }
@@ -41,8 +41,8 @@ abbrev pub span : ℕ → ℕ → Name → Size → List Operand → Row
 span first last name size operands = keys (8 * first) (8 * last + 7) name size operands false
 
 -- the row of one opcode
-abbrev pub one : ℕ → Name → Size → List Operand → Row
-one opcode name size operands = span opcode opcode name size operands
+abbrev pub one_opcode : ℕ → Name → Size → List Operand → Row
+one_opcode opcode name size operands = span opcode opcode name size operands
 
 -- the row of one opcode, with LOCK
 abbrev pub locked : ℕ → Name → Size → List Operand → Row
@@ -55,7 +55,7 @@ slash opcode n name size operands lock = keys (8 * opcode + n) (8 * opcode + n) 
 -- opcodes one after another that differ in the operation alone
 abbrev pub each : ℕ → List Name → Size → List Operand → List Row
 each opcode [] size operands = []
-each opcode (n ∷ ns) size operands = one opcode n size operands ∷ each (opcode + 1) ns size operands
+each opcode (n ∷ ns) size operands = one_opcode opcode n size operands ∷ each (opcode + 1) ns size operands
 
 -- values of /n one after another that differ in the operation alone
 abbrev pub group : ℕ → ℕ → List Name → Size → List Operand → Bool → List Row
@@ -65,7 +65,7 @@ group opcode n (name ∷ names) size operands lock =
 
 -- an opcode of bytes, and behind it the same of words or doublewords
 abbrev pub both : ℕ → Name → List Operand → List Row
-both opcode name operands = one opcode name Byte operands ∷ one (opcode + 1) name Either operands ∷ []
+both opcode name operands = one_opcode opcode name Byte operands ∷ one_opcode (opcode + 1) name Either operands ∷ []
 
 -- Eb,Gb; Ev,Gv, with LOCK where it has it; Gb,Eb; Gv,Ev; AL,Ib; eAX,Iv
 abbrev pub arithmetic : ℕ → Name → Bool → List Row
@@ -97,10 +97,10 @@ unary opcode size =
 -- the opcodes 00 to 3F
 abbrev pub rows_00 : List Row
 rows_00 =
-    arithmetic 0x00 Add true ++ one 0x06 Push Either (Es ∷ []) ∷ one 0x07 Pop Either (Es ∷ []) ∷ []
-    ++ arithmetic 0x08 Or true ++ one 0x0e Push Either (Cs ∷ []) ∷ []
-    ++ arithmetic 0x10 Adc true ++ one 0x16 Push Either (Ss ∷ []) ∷ one 0x17 Pop Either (Ss ∷ []) ∷ []
-    ++ arithmetic 0x18 Sbb true ++ one 0x1e Push Either (Ds ∷ []) ∷ one 0x1f Pop Either (Ds ∷ []) ∷ []
+    arithmetic 0x00 Add true ++ one_opcode 0x06 Push Either (Es ∷ []) ∷ one_opcode 0x07 Pop Either (Es ∷ []) ∷ []
+    ++ arithmetic 0x08 Or true ++ one_opcode 0x0e Push Either (Cs ∷ []) ∷ []
+    ++ arithmetic 0x10 Adc true ++ one_opcode 0x16 Push Either (Ss ∷ []) ∷ one_opcode 0x17 Pop Either (Ss ∷ []) ∷ []
+    ++ arithmetic 0x18 Sbb true ++ one_opcode 0x1e Push Either (Ds ∷ []) ∷ one_opcode 0x1f Pop Either (Ds ∷ []) ∷ []
     ++ arithmetic 0x20 And true ++ arithmetic 0x28 Sub true ++ arithmetic 0x30 Xor true ++ arithmetic 0x38 Cmp false
 
 -- the opcodes 40 to 7F
@@ -108,9 +108,9 @@ abbrev pub rows_40 : List Row
 rows_40 =
     span 0x40 0x47 Inc Either (Low ∷ []) ∷ span 0x48 0x4f Dec Either (Low ∷ [])
     ∷ span 0x50 0x57 Push Either (Low ∷ []) ∷ span 0x58 0x5f Pop Either (Low ∷ [])
-    ∷ one 0x60 Pusha Either [] ∷ one 0x61 Popa Either [] ∷ one 0x62 Bound Either (G ∷ M ∷ []) ∷ one 0x63 Arpl Word (E ∷ G ∷ [])
-    ∷ one 0x68 Push Either (I ∷ []) ∷ one 0x69 Imul Either (G ∷ E ∷ I ∷ [])
-    ∷ one 0x6a Push Either (SignedByte ∷ []) ∷ one 0x6b Imul Either (G ∷ E ∷ SignedByte ∷ [])
+    ∷ one_opcode 0x60 Pusha Either [] ∷ one_opcode 0x61 Popa Either [] ∷ one_opcode 0x62 Bound Either (G ∷ M ∷ []) ∷ one_opcode 0x63 Arpl Word (E ∷ G ∷ [])
+    ∷ one_opcode 0x68 Push Either (I ∷ []) ∷ one_opcode 0x69 Imul Either (G ∷ E ∷ I ∷ [])
+    ∷ one_opcode 0x6a Push Either (SignedByte ∷ []) ∷ one_opcode 0x6b Imul Either (G ∷ E ∷ SignedByte ∷ [])
     ∷ each 0x70 jumps Either (at.Jb ∷ [])
 
 -- the opcodes 80 to BF
@@ -121,13 +121,13 @@ rows_80 =
     ++ locked 0x86 Xchg Byte (E ∷ G ∷ []) ∷ locked 0x87 Xchg Either (E ∷ G ∷ [])
     ∷ both 0x88 Mov (E ∷ G ∷ []) ++ both 0x8a Mov (G ∷ E ∷ [])
     ++ keys (8 * 0x8c) (8 * 0x8c + 5) Mov Word (E ∷ S ∷ []) false
-    ∷ one 0x8d Lea Either (G ∷ M ∷ [])
+    ∷ one_opcode 0x8d Lea Either (G ∷ M ∷ [])
     ∷ slash 0x8e 0 Mov Word (S ∷ E ∷ []) false
     ∷ keys (8 * 0x8e + 2) (8 * 0x8e + 5) Mov Word (S ∷ E ∷ []) false
     ∷ slash 0x8f 0 Pop Either (E ∷ []) false
-    ∷ one 0x90 Nop Double [] ∷ span 0x91 0x97 Xchg Either (Eax ∷ Low ∷ [])
-    ∷ one 0x98 Cwde Either [] ∷ one 0x99 Cdq Either [] ∷ one 0x9a Callf Either (A ∷ []) ∷ one 0x9b Wait Double []
-    ∷ one 0x9c Pushf Either [] ∷ one 0x9d Popf Either [] ∷ one 0x9e Sahf Double [] ∷ one 0x9f Lahf Double []
+    ∷ one_opcode 0x90 Nop Double [] ∷ span 0x91 0x97 Xchg Either (Eax ∷ Low ∷ [])
+    ∷ one_opcode 0x98 Cwde Either [] ∷ one_opcode 0x99 Cdq Either [] ∷ one_opcode 0x9a Callf Either (A ∷ []) ∷ one_opcode 0x9b Wait Double []
+    ∷ one_opcode 0x9c Pushf Either [] ∷ one_opcode 0x9d Popf Either [] ∷ one_opcode 0x9e Sahf Double [] ∷ one_opcode 0x9f Lahf Double []
     ∷ both 0xa0 Mov (Eax ∷ O ∷ []) ++ both 0xa2 Mov (O ∷ Eax ∷ [])
     ++ both 0xa4 Movs (X ∷ []) ++ both 0xa6 Cmps (X ∷ []) ++ both 0xa8 Test (Eax ∷ I ∷ [])
     ++ both 0xaa Stos [] ++ both 0xac Lods (X ∷ []) ++ both 0xae Scas []
@@ -137,16 +137,16 @@ rows_80 =
 abbrev pub rows_c0 : List Row
 rows_c0 =
     shifts 0xc0 Byte Ib ++ shifts 0xc1 Either Ib
-    ++ one 0xc2 Ret Either (Iw ∷ []) ∷ one 0xc3 Ret Either []
-    ∷ one 0xc4 Les Either (G ∷ M ∷ []) ∷ one 0xc5 Lds Either (G ∷ M ∷ [])
+    ++ one_opcode 0xc2 Ret Either (Iw ∷ []) ∷ one_opcode 0xc3 Ret Either []
+    ∷ one_opcode 0xc4 Les Either (G ∷ M ∷ []) ∷ one_opcode 0xc5 Lds Either (G ∷ M ∷ [])
     ∷ slash 0xc6 0 Mov Byte (E ∷ I ∷ []) false ∷ slash 0xc7 0 Mov Either (E ∷ I ∷ []) false
-    ∷ one 0xc9 Leave Either [] ∷ one 0xca Retf Either (Iw ∷ []) ∷ one 0xcb Retf Either []
-    ∷ one 0xcc Int3 Double [] ∷ one 0xcd Int Double (Ib ∷ []) ∷ one 0xce Into Double [] ∷ one 0xcf Iret Either []
+    ∷ one_opcode 0xc9 Leave Either [] ∷ one_opcode 0xca Retf Either (Iw ∷ []) ∷ one_opcode 0xcb Retf Either []
+    ∷ one_opcode 0xcc Int3 Double [] ∷ one_opcode 0xcd Int Double (Ib ∷ []) ∷ one_opcode 0xce Into Double [] ∷ one_opcode 0xcf Iret Either []
     ∷ shifts 0xd0 Byte One ++ shifts 0xd1 Either One ++ shifts 0xd2 Byte Cl ++ shifts 0xd3 Either Cl
-    ++ one 0xd7 Xlat Byte (Table ∷ []) ∷ span 0xd8 0xdf Esc Double []
+    ++ one_opcode 0xd7 Xlat Byte (Table ∷ []) ∷ span 0xd8 0xdf Esc Double []
     ∷ each 0xe0 (Loopnz ∷ Loopz ∷ Loop ∷ Jecxz ∷ []) Either (at.Jb ∷ [])
     ++ both 0xe4 In (Eax ∷ Ib ∷ []) ++ both 0xe6 Out (Ib ∷ Eax ∷ [])
-    ++ one 0xe8 Call Either (J ∷ []) ∷ one 0xe9 Jmp Either (J ∷ []) ∷ one 0xea Jmpf Either (A ∷ []) ∷ one 0xeb Jmp Either (at.Jb ∷ [])
+    ++ one_opcode 0xe8 Call Either (J ∷ []) ∷ one_opcode 0xe9 Jmp Either (J ∷ []) ∷ one_opcode 0xea Jmpf Either (A ∷ []) ∷ one_opcode 0xeb Jmp Either (at.Jb ∷ [])
     ∷ both 0xec In (Eax ∷ Dx ∷ []) ++ both 0xee Out (Dx ∷ Eax ∷ [])
     ++ each 0xf4 (Hlt ∷ Cmc ∷ []) Double []
     ++ unary 0xf6 Byte ++ unary 0xf7 Either
@@ -163,16 +163,16 @@ rows_0f =
     group 0xf00 0 (Sldt ∷ Str ∷ Lldt ∷ Ltr ∷ Verr ∷ Verw ∷ []) Word (E ∷ []) false
     ++ group 0xf01 0 (Sgdt ∷ Sidt ∷ Lgdt ∷ Lidt ∷ []) Either (M ∷ []) false
     ++ slash 0xf01 4 Smsw Word (E ∷ []) false ∷ slash 0xf01 6 Lmsw Word (E ∷ []) false
-    ∷ one 0xf02 Lar Either (G ∷ E ∷ []) ∷ one 0xf03 Lsl Either (G ∷ E ∷ []) ∷ one 0xf06 Clts Double []
+    ∷ one_opcode 0xf02 Lar Either (G ∷ E ∷ []) ∷ one_opcode 0xf03 Lsl Either (G ∷ E ∷ []) ∷ one_opcode 0xf06 Clts Double []
     ∷ slash 0xf20 0 Mov Double (R ∷ at.Cr0 ∷ []) false ∷ slash 0xf22 0 Mov Double (at.Cr0 ∷ R ∷ []) false
     ∷ each 0xf80 jumps Either (J ∷ []) ++ each 0xf90 settings Byte (E ∷ [])
-    ++ one 0xfa0 Push Either (Fs ∷ []) ∷ one 0xfa1 Pop Either (Fs ∷ [])
-    ∷ locked 0xfa3 Bt Either (E ∷ G ∷ []) ∷ one 0xfa4 Shld Either (E ∷ G ∷ Ib ∷ []) ∷ one 0xfa5 Shld Either (E ∷ G ∷ Cl ∷ [])
-    ∷ one 0xfa8 Push Either (Gs ∷ []) ∷ one 0xfa9 Pop Either (Gs ∷ [])
-    ∷ locked 0xfab Bts Either (E ∷ G ∷ []) ∷ one 0xfac Shrd Either (E ∷ G ∷ Ib ∷ []) ∷ one 0xfad Shrd Either (E ∷ G ∷ Cl ∷ [])
-    ∷ one 0xfaf Imul Either (G ∷ E ∷ []) ∷ one 0xfb2 Lss Either (G ∷ M ∷ [])
-    ∷ locked 0xfb3 Btr Either (E ∷ G ∷ []) ∷ one 0xfb4 Lfs Either (G ∷ M ∷ []) ∷ one 0xfb5 Lgs Either (G ∷ M ∷ [])
-    ∷ one 0xfb6 Movzx8 Either (G ∷ E ∷ []) ∷ one 0xfb7 Movzx16 Either (G ∷ E ∷ [])
+    ++ one_opcode 0xfa0 Push Either (Fs ∷ []) ∷ one_opcode 0xfa1 Pop Either (Fs ∷ [])
+    ∷ locked 0xfa3 Bt Either (E ∷ G ∷ []) ∷ one_opcode 0xfa4 Shld Either (E ∷ G ∷ Ib ∷ []) ∷ one_opcode 0xfa5 Shld Either (E ∷ G ∷ Cl ∷ [])
+    ∷ one_opcode 0xfa8 Push Either (Gs ∷ []) ∷ one_opcode 0xfa9 Pop Either (Gs ∷ [])
+    ∷ locked 0xfab Bts Either (E ∷ G ∷ []) ∷ one_opcode 0xfac Shrd Either (E ∷ G ∷ Ib ∷ []) ∷ one_opcode 0xfad Shrd Either (E ∷ G ∷ Cl ∷ [])
+    ∷ one_opcode 0xfaf Imul Either (G ∷ E ∷ []) ∷ one_opcode 0xfb2 Lss Either (G ∷ M ∷ [])
+    ∷ locked 0xfb3 Btr Either (E ∷ G ∷ []) ∷ one_opcode 0xfb4 Lfs Either (G ∷ M ∷ []) ∷ one_opcode 0xfb5 Lgs Either (G ∷ M ∷ [])
+    ∷ one_opcode 0xfb6 Movzx8 Either (G ∷ E ∷ []) ∷ one_opcode 0xfb7 Movzx16 Either (G ∷ E ∷ [])
     ∷ group 0xfba 4 (Bt ∷ Bts ∷ Btr ∷ Btc ∷ []) Either (E ∷ Ib ∷ []) true
     ++ locked 0xfbb Btc Either (E ∷ G ∷ [])
     ∷ each 0xfbc (Bsf ∷ Bsr ∷ Movsx8 ∷ Movsx16 ∷ []) Either (G ∷ E ∷ [])

@@ -15,7 +15,7 @@ use Rattle.m386_opmap.specs.declared.row.Row.{Row}
 use Rattle.m386_opmap.specs.declared.row.Size.{Size}
 use Rattle.m386_opmap.specs.declared.row.Size.TheVariants.{Byte, Word, Double, Either}
 use Rattle.m386_opmap.specs.declared.fields.Fields.{Fields}
-use Rattle.m386_opmap.specs.Forms.{bytes_in, number, extended}
+use Rattle.m386_opmap.specs.Forms.{width_bytes, number, extended}
 
 -- how wide operands are, with 66h and without it
 abbrev pub width_of : Size → Bool → Width
@@ -67,14 +67,14 @@ suits r lock memory = (not lock || r.lock && memory) && (not (wants_memory r) ||
 
 -- how many bytes behind opcode and ModRM are an operand's
 abbrev pub operand_length : Width → Operand → ℕ
-operand_length w I = bytes_in w
+operand_length w I = width_bytes w
 operand_length w Ib = 1
 operand_length w Iw = 2
 operand_length w SignedByte = 1
 operand_length w Jb = 1
-operand_length w J = bytes_in w
+operand_length w J = width_bytes w
 operand_length w O = 4
-operand_length w A = bytes_in w + 2
+operand_length w A = width_bytes w + 2
 operand_length w _ = 0
 
 -- how many bytes stand behind opcode and ModRM
@@ -96,14 +96,14 @@ operand_value f w tail R = f.place
 operand_value f w tail G = Some (Reg f.middle)
 operand_value f w tail S = Some (Seg f.middle)
 operand_value f w tail Low = Some (Reg (f.opcode % 8))
-operand_value f w tail I = Some (Imm (number (take (bytes_in w) tail)))
+operand_value f w tail I = Some (Imm (number (take (width_bytes w) tail)))
 operand_value f w tail Ib = Some (Imm (number (take 1 tail)))
 operand_value f w tail Iw = Some (Imm (number (take 2 tail)))
 operand_value f w tail SignedByte = Some (Imm (extended W8 w (number (take 1 tail))))
 operand_value f w tail Jb = Some (Rel (extended W8 W32 (number (take 1 tail))))
-operand_value f w tail J = Some (Rel (extended w W32 (number (take (bytes_in w) tail))))
+operand_value f w tail J = Some (Rel (extended w W32 (number (take (width_bytes w) tail))))
 operand_value f w tail O = Some (plain_memory f.prefixes.seg None (number (take 4 tail)))
-operand_value f w tail A = Some (Far (number (take 2 (drop (bytes_in w) tail))) (number (take (bytes_in w) tail)))
+operand_value f w tail A = Some (Far (number (take 2 (drop (width_bytes w) tail))) (number (take (width_bytes w) tail)))
 operand_value f w tail X = Some (plain_memory f.prefixes.seg (Some 6) 0)
 operand_value f w tail Table = Some (plain_memory f.prefixes.seg (Some 3) 0)
 operand_value f w tail Eax = Some (Reg 0)

@@ -8,7 +8,7 @@ use Rattle.m386_opmap.specs.declared.op.Arg.TheVariants.{Reg, Mem}
 use Rattle.m386_opmap.specs.declared.outcome.Reading.{Reading}
 use Rattle.m386_opmap.specs.declared.outcome.Reading.TheVariants.{Spelled, More, Refused}
 use Rattle.m386_opmap.specs.declared.row.Row.{Row}
-use Rattle.m386_opmap.specs.Forms.{top, middle, low, displacement, displacement_length, base_of, index_of, scale_of}
+use Rattle.m386_opmap.specs.Forms.{top_bits, middle_bits, low, displacement, displacement_length, base_of, index_of, scale_of}
 use Rattle.m386_opmap.specs.Opcodes.{opcode_rows}
 use Rattle.m386_opmap.specs.Operands.{has_modrm, suits, tail_length, operation}
 use Rattle.m386_opmap.specs.Prefix.{is_prefix, no_prefixes, with_prefix}
@@ -41,24 +41,24 @@ sib_reading r f mode at (s ∷ bytes) =
 -- what the ModRM byte names
 unfoldable pub form_reading : Row → Fields → ℕ → ℕ → List ℕ → Reading
 form_reading r f m at bytes =
-    if top m == 3 then tail_reading r (with_place f (Reg (low m))) at bytes
-    else if low m == 4 then sib_reading r f (top m) at bytes
+    if top_bits m == 3 then tail_reading r (with_place f (Reg (low m))) at bytes
+    else if low m == 4 then sib_reading r f (top_bits m) at bytes
     else displaced_reading r f
-    (record { seg = f.prefixes.seg; base = base_of (top m) (low m); index = None; scale = 1; disp = 0 })
-    (displacement_length (top m) (low m)) at bytes
+    (record { seg = f.prefixes.seg; base = base_of (top_bits m) (low m); index = None; scale = 1; disp = 0 })
+    (displacement_length (top_bits m) (low m)) at bytes
 
 -- the row that a ModRM byte selects
 abbrev pub selected_reading : Option Row → Fields → ℕ → ℕ → List ℕ → Reading
 selected_reading None f m at bytes = Refused at
 selected_reading (Some r) f m at bytes =
-    if suits r f.prefixes.lock (not (top m == 3)) then form_reading r f m (at + 1) bytes else Refused at
+    if suits r f.prefixes.lock (not (top_bits m == 3)) then form_reading r f m (at + 1) bytes else Refused at
 
 -- a ModRM byte
 unfoldable pub modrm_reading : List Row → Prefixes → ℕ → ℕ → List ℕ → Reading
 modrm_reading rows said opcode at [] = More
 modrm_reading rows said opcode at (m ∷ bytes) =
-    selected_reading (row_at (8 * opcode + middle m) rows)
-    (record { prefixes = said; opcode = opcode; middle = middle m; place = None }) m at bytes
+    selected_reading (row_at (8 * opcode + middle_bits m) rows)
+    (record { prefixes = said; opcode = opcode; middle = middle_bits m; place = None }) m at bytes
 
 -- what stands behind the opcode of a row
 abbrev pub begun_reading : Option Row → List Row → Prefixes → ℕ → ℕ → List ℕ → Reading

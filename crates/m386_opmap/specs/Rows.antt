@@ -8,8 +8,8 @@ abbrev pub Covers : Row → ℕ → Type 0
 Covers r key = (r.low ≤ key) × (key ≤ r.high)
 
 -- whether the row covers the key
-abbrev pub covers : ℕ → Row → Bool
-covers key r = nat_le r.low key && nat_le key r.high
+abbrev pub covers_key : ℕ → Row → Bool
+covers_key key r = nat_le r.low key && nat_le key r.high
 
 -- each row ends below the begin of the next, from this key on
 abbrev pub rising_from : ℕ → List Row → Bool
@@ -22,7 +22,7 @@ rising rs = rising_from 0 rs
 
 -- the row that covers a key
 unfoldable pub row_at : ℕ → List Row → Option Row
-row_at key rows = find (covers key) rows
+row_at key rows = find (covers_key key) rows
 
 -- whether the row is of this opcode, whatever the ModRM byte says, and takes LOCK where there is one
 abbrev pub begins : Bool → ℕ → Row → Bool

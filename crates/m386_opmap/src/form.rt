@@ -1,6 +1,6 @@
 //! The fields of a ModRM or SIB byte.
 ghost use Rattle.std.specs.Prelude.{◌≡◌, ◌<◌, ◌≤◌};
-ghost use Rattle.m386_opmap.specs.Forms.{top, middle, low, displacement_length, base_of, index_of, scale_of};
+ghost use Rattle.m386_opmap.specs.Forms.{top_bits, middle_bits, low, displacement_length, base_of, index_of, scale_of};
 
 /// How many bytes of displacement there are, by mod and the base (PRM 17.2.1, tables 17-3 and 17-4): 0, 1 or 4. With mod 3
 /// the ModRM byte names a register, and the answer says nothing.

@@ -2,7 +2,7 @@
 ghost use Rattle.std.specs.Prelude.{◌≡◌, ℕ, ◌+◌, ◌<◌, ◌≤◌, ◌^◌, ◌++◌, length, take, drop, option_to_list};
 ghost use Rattle.arrayvec.specs.ArrayVec.{array_vec_len};
 ghost use Rattle.m386_base.specs.declared.number.Width.TheVariants.{W8, W16, W32};
-ghost use Rattle.m386_opmap.specs.Forms.{bytes_in, number, extended, displacement};
+ghost use Rattle.m386_opmap.specs.Forms.{width_bytes, number, extended, displacement};
 ghost use Rattle.m386_opmap.specs.Operands.{width_of, in_modrm, has_modrm, suits, is_memory_alone, is_register_alone, wants_memory, wants_register, operand_length, tail_length, operand_value, plain_memory, is_string, operation};
 
 use crate::fields::Fields;
@@ -27,7 +27,7 @@ pub(crate) fn width(size: Size, narrow: bool) -> Width
 
 /// How many bytes a width has.
 fn bytes_of(width: Width) -> usize
-    ensures exact { result ≡ bytes_in width }
+    ensures exact { result ≡ width_bytes width }
     ensures few { result ≤ 4 }
 {
     match width {
@@ -207,7 +207,7 @@ fn memory(seg: Option<u8>, base: Option<u8>, disp: u32) -> Arg
 /// The distance of a jump, of the operation's width.
 #[tactic(auto, using(crate::proofs::Numbers::extended_whole))]
 fn distance(width: Width, tail: &[u8]) -> u32
-    ensures { result ≡ extended width W32 (number (take (bytes_in width) tail.now)) }
+    ensures { result ≡ extended width W32 (number (take (width_bytes width) tail.now)) }
 {
     match width {
         Width::W8 => extended_byte(number_at(tail, 0, 1) as u8, Width::W32),

@@ -13,7 +13,7 @@ use crate::lookup::Lookup;
 use crate::op::{Addr, Arg};
 use crate::outcome::Reading;
 use crate::row::Row;
-use crate::rows::{ESCAPED_ROWS_BELOW, ROWS, ROWS_BELOW};
+use crate::rows::{ESCAPED_ROWS_BELOW, OPCODE_ROWS, ROWS_BELOW};
 use crate::{form, operand};
 
 /// The row of a table that covers a key.
@@ -228,7 +228,7 @@ fn read_opcodes(bytes: &[u8]) -> Reading
     ensures { result ≡ reading_of bytes.now }
 {
     let table = Lookup {
-        rows: &ROWS,
+        rows: &OPCODE_ROWS,
         below: &ROWS_BELOW,
         escaped_below: &ESCAPED_ROWS_BELOW,
     };

@@ -85,7 +85,7 @@ macro_rules! sums {
 }
 
 /// The opcodes of the machine (PRM appendix A), rising by their keys.
-pub const ROWS: [Row; 327] = rows![
+pub const OPCODE_ROWS: [Row; 327] = rows![
     0x00 Add Byte (E G) lock;
     0x01 Add Either (E G) lock;
     0x02 Add Byte (G E);
@@ -435,7 +435,7 @@ pub const ESCAPED_ROWS_BELOW: [u16; 32] = sums!([] 252;
 
 /// The table is the one that the manual's opcode map gives.
 pub fn rows_are_the_opcodes()
-    ensures { ROWS ≡ opcode_rows }
+    ensures { OPCODE_ROWS ≡ opcode_rows }
 {}
 
 /// The counts are those of the table.

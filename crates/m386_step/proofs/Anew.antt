@@ -28,8 +28,8 @@ abbrev pub Once : {A : Type 0} → (List ℕ → A → Type 0) → List ℕ → 
 Once P groups t = Obeys IsAnew with_fetched P (λ later f. Unit {0}) groups t
 
 -- what is found is no matter
-abbrev pub Anything : {A : Type 0} → List ℕ → A → Type 0
-Anything later a = Unit {0}
+abbrev pub AnyGroups : {A : Type 0} → List ℕ → A → Type 0
+AnyGroups later a = Unit {0}
 
 -- it fetches nothing
 abbrev pub FetchesNone : {A : Type 0} → Phrase A → Type 0
@@ -39,7 +39,7 @@ FetchesNone (Begins m t) = FetchesNone t
 FetchesNone (Asks q k) = (is_fetch q ≡ false) × ((v : ℕ) → FetchesNone (k v))
 
 -- so it fetches no group again
-pub none_once : {A : Type 0} (groups : List ℕ) (t : Phrase A) → FetchesNone t → Once Anything groups t
+pub none_once : {A : Type 0} (groups : List ℕ) (t : Phrase A) → FetchesNone t → Once AnyGroups groups t
 none_once groups (Done a) h = tt
 none_once groups (Faults f) h = tt
 none_once groups (Begins m t) h = none_once groups t h
@@ -61,7 +61,7 @@ none_if true t u h k = h
 none_if false t u h k = k
 
 -- a phrase, and what follows from its end and from its fault
-pub once_either : {A B : Type 0} (P : List ℕ → A → Type 0) (groups : List ℕ) (t : Phrase A) (f : A → Phrase B) (g : Fault → Phrase B) → Once P groups t → ((a : A) → FetchesNone (f a)) → ((x : Fault) → FetchesNone (g x)) → Once Anything groups (either t f g)
+pub once_either : {A B : Type 0} (P : List ℕ → A → Type 0) (groups : List ℕ) (t : Phrase A) (f : A → Phrase B) (g : Fault → Phrase B) → Once P groups t → ((a : A) → FetchesNone (f a)) → ((x : Fault) → FetchesNone (g x)) → Once AnyGroups groups (either t f g)
 unfolding either
 once_either P groups (Done a) f g h k l = none_once groups (f a) (k a)
 once_either P groups (Faults x) f g h k l = none_once groups (g x) (l x)
@@ -78,7 +78,7 @@ anew_of : (groups : List ℕ) (q t : Ask) → matches q t ≡ true → IsAnew gr
 anew_of groups q t m h = λ f c. h (matches-fetch q t m ∙ f) (subst (Contains groups) (matches-addr q t m) c)
 
 -- the cycles of a whole phrase do
-whole_anew : {A : Type 0} (groups : List ℕ) (t : Phrase A) (a : A) (ts : List Ask) → Once Anything groups t → follow t ts ≡ Whole a [] → AreAnew groups ts
+whole_anew : {A : Type 0} (groups : List ℕ) (t : Phrase A) (a : A) (ts : List Ask) → Once AnyGroups groups t → follow t ts ≡ Whole a [] → AreAnew groups ts
 unfolding follow
 whole_anew groups (Done b) a [] h e = tt
 whole_anew groups (Done b) a (x ∷ ts) h e = cc
@@ -87,12 +87,12 @@ whole_anew groups (Begins m t) a ts h e = whole_anew groups t a ts h e
 whole_anew groups (Asks q k) a [] h e = cc
 whole_anew groups (Asks q k) a (t ∷ ts) h e = go (matches q t) refl (λ o. whole_anew (with_fetched groups t) (k (answer_of t)) a ts o)
   where
-    go : (b : Bool) → matches q t ≡ b → (Once Anything (with_fetched groups t) (k (answer_of t)) → follow (k (answer_of t)) ts ≡ Whole a [] → AreAnew (with_fetched groups t) ts) → AreAnew groups (t ∷ ts)
+    go : (b : Bool) → matches q t ≡ b → (Once AnyGroups (with_fetched groups t) (k (answer_of t)) → follow (k (answer_of t)) ts ≡ Whole a [] → AreAnew (with_fetched groups t) ts) → AreAnew groups (t ∷ ts)
     go true f ih = ((h t f).0, ih (h t f).1 (rw f at e))
     go false f ih = let d : Wrong ≡ Whole a [] = rw f at e in cc
 
 -- and so do those of a proper front, with the ask that is wanted next
-wants_anew : {A : Type 0} (groups : List ℕ) (t : Phrase A) (wanted : Ask) (ts : List Ask) → Once Anything groups t → follow t ts ≡ Wants wanted → AreAnew groups (ts ++ wanted ∷ [])
+wants_anew : {A : Type 0} (groups : List ℕ) (t : Phrase A) (wanted : Ask) (ts : List Ask) → Once AnyGroups groups t → follow t ts ≡ Wants wanted → AreAnew groups (ts ++ wanted ∷ [])
 unfolding follow
 wants_anew groups (Done b) wanted ts h e = cc
 wants_anew groups (Faults f) wanted ts h e = cc
@@ -104,7 +104,7 @@ wants_anew groups (Asks q k) wanted [] h e =
     (subst (IsAnew groups) i (anew_of groups q made m (h made m).0), tt)
 wants_anew groups (Asks q k) wanted (t ∷ ts) h e = go (matches q t) refl (λ o. wants_anew (with_fetched groups t) (k (answer_of t)) wanted ts o)
   where
-    go : (b : Bool) → matches q t ≡ b → (Once Anything (with_fetched groups t) (k (answer_of t)) → follow (k (answer_of t)) ts ≡ Wants wanted → AreAnew (with_fetched groups t) (ts ++ wanted ∷ [])) → AreAnew groups (t ∷ (ts ++ wanted ∷ []))
+    go : (b : Bool) → matches q t ≡ b → (Once AnyGroups (with_fetched groups t) (k (answer_of t)) → follow (k (answer_of t)) ts ≡ Wants wanted → AreAnew (with_fetched groups t) (ts ++ wanted ∷ [])) → AreAnew groups (t ∷ (ts ++ wanted ∷ []))
     go true f ih = ((h t f).0, ih (h t f).1 (rw f at e))
     go false f ih = let d : Wrong ≡ Wants wanted = rw f at e in cc
 

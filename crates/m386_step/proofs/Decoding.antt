@@ -11,7 +11,7 @@ use Rattle.m386_opmap.specs.declared.outcome.Reading.TheVariants.{Spelled, More,
 use Rattle.m386_opmap.specs.Readings.{reading_of}
 use Rattle.m386_opmap.specs.Spelling.{BeginsSpelling, IsReadingOf}
 use Rattle.m386_opmap.proofs.Laws.{reading_is}
-use Rattle.m386_opmap.proofs.Sound.{AreBytes, front_bytes}
+use Rattle.m386_opmap.proofs.Sound.{AllAreBytes, front_bytes}
 use Rattle.m386_decode.specs.declared.decoded.Decoded.{Decoded}
 use Rattle.m386_decode.specs.Decoding.{WantsMore, Concludes}
 use Rattle.m386_decode.proofs.Concluding.{wants_nothing, spelled_whole, refused_at_last, begins_before}
@@ -77,7 +77,7 @@ unfolding decode_phrase Fetched
 decode_is r ts = decoding_is 15 [] r r ts ts refl wants_nothing (refl, refl)
 
 -- bytes that want more read so
-wants_reads : (bytes : List ℕ) → AreBytes bytes → WantsMore bytes → reading_of bytes ≡ More
+wants_reads : (bytes : List ℕ) → AllAreBytes bytes → WantsMore bytes → reading_of bytes ≡ More
 wants_reads bytes are wants = go (reading_of bytes) refl (reading_is bytes are)
   where
     go : (x : Reading) → reading_of bytes ≡ x → IsReadingOf bytes x → reading_of bytes ≡ More
@@ -88,7 +88,7 @@ wants_reads bytes are wants = go (reading_of bytes) refl (reading_is bytes are)
         absurd (said.1.1.1 (begins_before (take (at + 1) bytes) (drop (at + 1) bytes) (subst B (sym (take-append-drop (at + 1) bytes)) wants.1)))
 
 -- bytes have come that want more with those before them
-further_on : (bytes front : List ℕ) (n : ℕ) (r s : Reader) (ts mid : List Ask) → WantsMore (front ++ bytes) → AreBytes (front ++ bytes) → Fetched r bytes s ts mid
+further_on : (bytes front : List ℕ) (n : ℕ) (r s : Reader) (ts mid : List Ask) → WantsMore (front ++ bytes) → AllAreBytes (front ++ bytes) → Fetched r bytes s ts mid
     → follow (further_phrase (length bytes + n) front r) ts ≡ follow (further_phrase n (front ++ bytes) s) mid
 unfolding Fetched
 further_on [] front n r s ts mid wants are h =
@@ -97,9 +97,9 @@ further_on [] front n r s ts mid wants are h =
 further_on (b ∷ bytes) front n r s ts mid wants are h =
     let join : (front ++ b ∷ []) ++ bytes ≡ front ++ b ∷ bytes = append_assoc front (b ∷ []) bytes in
     let W : List ℕ → Type 0 = WantsMore in
-    let B : List ℕ → Type 0 = AreBytes in
+    let B : List ℕ → Type 0 = AllAreBytes in
     let wants_joined : WantsMore ((front ++ b ∷ []) ++ bytes) = subst W (sym join) wants in
-    let are_joined : AreBytes ((front ++ b ∷ []) ++ bytes) = subst B (sym join) are in
+    let are_joined : AllAreBytes ((front ++ b ∷ []) ++ bytes) = subst B (sym join) are in
     let reads : reading_of (front ++ b ∷ []) ≡ More = wants_reads (front ++ b ∷ []) (front_bytes (front ++ b ∷ []) bytes are_joined) (wanting_before (front ++ b ∷ []) bytes wants_joined) in
     let m : ℕ = length bytes + n in
     let size : length (b ∷ bytes) + n ≡ suc m = omega arith in
@@ -139,7 +139,7 @@ read_answered n front b bytes answer r s ts rest few wants h c (Refused at) said
 read_answered n front b bytes answer r s ts rest few wants h c More said more = more said
 
 -- bytes have come that have an answer with those before them
-answered : (bytes front : List ℕ) (n : ℕ) (answer : Result Decoded Break) (r s : Reader) (ts rest : List Ask) → n + length front ≡ 15 → WantsMore front → AreBytes (front ++ bytes)
+answered : (bytes front : List ℕ) (n : ℕ) (answer : Result Decoded Break) (r s : Reader) (ts rest : List Ask) → n + length front ≡ 15 → WantsMore front → AllAreBytes (front ++ bytes)
     → Fetched r bytes s ts rest → Concludes (front ++ bytes) answer → follow (further_phrase n front r) ts ≡ judged answer rest
 unfolding Fetched further_phrase follow
 answered [] front zero answer r s ts rest size wants are h c =
@@ -156,9 +156,9 @@ answered (b ∷ bytes) front zero answer r s ts rest size wants are h c =
 answered (b ∷ bytes) front (suc n) answer r s ts rest size wants are h c =
     let join : (front ++ b ∷ []) ++ bytes ≡ front ++ b ∷ bytes = append_assoc front (b ∷ []) bytes in
     let C : List ℕ → Type 0 = λ x. Concludes x answer in
-    let B : List ℕ → Type 0 = AreBytes in
+    let B : List ℕ → Type 0 = AllAreBytes in
     let c_joined : Concludes ((front ++ b ∷ []) ++ bytes) answer = subst C (sym join) c in
-    let are_joined : AreBytes ((front ++ b ∷ []) ++ bytes) = subst B (sym join) are in
+    let are_joined : AllAreBytes ((front ++ b ∷ []) ++ bytes) = subst B (sym join) are in
     let size_more : n + length (front ++ b ∷ []) ≡ 15 = one_longer n front b size in
     further_step n front r ts
     ∙ ap (λ v. after v (behind n front)) h.2

@@ -4,7 +4,7 @@ use Rattle.std.proofs.lemmas.List.Elements.{All-nil, All-cons}
 use Rattle.m386_base.specs.declared.ask.Ask.{Ask}
 use Rattle.m386_base.specs.Bus.{BusView}
 use Rattle.m386_base.specs.Phrase.{Phrase, Done, Faults, Asks, Begins, ◌>>=◌, follow, Whole, Wrong, Completes, matches, answer_of, one}
-use Rattle.m386_opmap.proofs.Sound.{AreBytes}
+use Rattle.m386_opmap.proofs.Sound.{AllAreBytes}
 use Rattle.m386_step.specs.declared.fetch.Reader.{Reader}
 use Rattle.m386_step.specs.Fetch.{byte_phrase, group_phrase, byte_in, linear, taken, fetch_ask}
 use Rattle.m386_step.specs.Fetched.{Fetched, Gives}
@@ -55,7 +55,7 @@ finds_byte r =
     (finds_if FindsByte (r.fetched && (r.group == group)) (Done (taken r)) (one (fetch_ask group) >>= (λ v. Done (fetched v))) (byte_below r.value (linear r)) (λ v. byte_below v (linear r)))
 
 -- they are bytes
-pub fetched_bytes : (bytes : List ℕ) (r s : Reader) (ts rest : List Ask) → Fetched r bytes s ts rest → AreBytes bytes
+pub fetched_bytes : (bytes : List ℕ) (r s : Reader) (ts rest : List Ask) → Fetched r bytes s ts rest → AllAreBytes bytes
 unfolding Fetched
 fetched_bytes [] r s ts rest h = All-nil (λ b. b < 256)
 fetched_bytes (b ∷ bytes) r s ts rest h =

@@ -11,17 +11,17 @@ use Rattle.m386_step.specs.Instruction.{operation_phrase, instruction_phrase}
 use Rattle.m386_step.proofs.Ordinary.{none_operation}
 use Rattle.m386_step.specs.Once.{IsAnew, with_fetched, FetchesOnce}
 use Rattle.m386_step.specs.Step.{is_due, without_event, running_phrase, turn_phrase, step_phrase}
-use Rattle.m386_step.proofs.Anew.{Once, Anything, none_once, once_either}
+use Rattle.m386_step.proofs.Anew.{Once, AnyGroups, none_once, once_either}
 use Rattle.m386_step.proofs.Rising.{once_decode}
 
-once_instruction : (p : Proc) → Once Anything [] (instruction_phrase p)
+once_instruction : (p : Proc) → Once AnyGroups [] (instruction_phrase p)
 unfolding instruction_phrase
 once_instruction p =
-    obeys_then IsAnew with_fetched Anything Anything Anything [] (decode_phrase (first_reader p)) _ (once_decode (first_reader p)) (λ later d h. none_once later (operation_phrase d.op _) (none_operation d.op _))
+    obeys_then IsAnew with_fetched AnyGroups AnyGroups AnyGroups [] (decode_phrase (first_reader p)) _ (once_decode (first_reader p)) (λ later d h. none_once later (operation_phrase d.op _) (none_operation d.op _))
 
-once_turn : (m : Mode) (p : Proc) → Once Anything [] (turn_phrase m p)
+once_turn : (m : Mode) (p : Proc) → Once AnyGroups [] (turn_phrase m p)
 unfolding running_phrase
-once_turn Running p = once_either Anything [] (instruction_phrase p) _ _ (once_instruction p) (λ a. tt) (λ f. tt)
+once_turn Running p = once_either AnyGroups [] (instruction_phrase p) _ _ (once_instruction p) (λ a. tt) (λ f. tt)
 once_turn Halted p = tt
 once_turn Shutdown p = tt
 
@@ -29,6 +29,6 @@ pub once_step : (p : Proc) → FetchesOnce [] (step_phrase p)
 unfolding step_phrase FetchesOnce
 once_step p = go (is_due p)
   where
-    go : (b : Bool) → Once Anything [] (cond b (Done (without_event p)) (turn_phrase p.mode (record p { shadow = false })))
+    go : (b : Bool) → Once AnyGroups [] (cond b (Done (without_event p)) (turn_phrase p.mode (record p { shadow = false })))
     go true = tt
     go false = once_turn p.mode (record p { shadow = false })

@@ -14,7 +14,7 @@ use Rattle.m386_step.specs.Code.{read_on, further_phrase, decode_phrase}
 use Rattle.m386_base.specs.Exceptions.{general_protection_of}
 use Rattle.m386_step.specs.Fetch.{byte_phrase, group_phrase, linear, taken, fetch_ask}
 use Rattle.m386_step.specs.Once.{is_fetch, IsAnew, with_fetched}
-use Rattle.m386_step.proofs.Anew.{Once, Anything, matches-fetch, matches-addr}
+use Rattle.m386_step.proofs.Anew.{Once, AnyGroups, matches-fetch, matches-addr}
 
 -- the group of a byte, by its number
 abbrev group_at : ℕ → ℕ → ℕ
@@ -102,17 +102,17 @@ once_byte start k groups r l h = go (nat_lt r.limit r.at)
     go true = tt
     go false = once_group start k groups r l h
 
-once_read_on : (groups : List ℕ) (x : Reading) (more : Phrase Decoded) → Once Anything groups more → Once Anything groups (read_on x more)
+once_read_on : (groups : List ℕ) (x : Reading) (more : Phrase Decoded) → Once AnyGroups groups more → Once AnyGroups groups (read_on x more)
 once_read_on groups (Spelled op len) more h = tt
 once_read_on groups (Refused at) more h = tt
 once_read_on groups More more h = h
 
 -- what is spelled from byte k on
-once_further : (start k left : ℕ) (bytes groups : List ℕ) (r : Reader) → k + left ≡ 15 → HasRead start k groups r → Once Anything groups (further_phrase left bytes r)
+once_further : (start k left : ℕ) (bytes groups : List ℕ) (r : Reader) → k + left ≡ 15 → HasRead start k groups r → Once AnyGroups groups (further_phrase left bytes r)
 unfolding further_phrase
 once_further start k zero bytes groups r e h = tt
 once_further start k (suc left) bytes groups r e h =
-    obeys_then IsAnew with_fetched (Reads start (suc k)) Anything Anything groups (byte_phrase r) _ (once_byte start k groups r (omega arith) h) (λ later b i. once_read_on later (reading_of (bytes ++ b.0 ∷ [])) _ (once_further start (suc k) left (bytes ++ b.0 ∷ []) later b.1 (omega arith) i))
+    obeys_then IsAnew with_fetched (Reads start (suc k)) AnyGroups AnyGroups groups (byte_phrase r) _ (once_byte start k groups r (omega arith) h) (λ later b i. once_read_on later (reading_of (bytes ++ b.0 ∷ [])) _ (once_further start (suc k) left (bytes ++ b.0 ∷ []) later b.1 (omega arith) i))
 
 -- nothing was read
 reads_none : (r : Reader) → HasRead (r.base + r.at) 0 [] r
@@ -123,6 +123,6 @@ reads_none r = record {
 }
 
 -- decoding
-pub once_decode : (r : Reader) → Once Anything [] (decode_phrase r)
+pub once_decode : (r : Reader) → Once AnyGroups [] (decode_phrase r)
 unfolding decode_phrase
 once_decode r = once_further (r.base + r.at) 0 15 [] [] r refl (reads_none r)

@@ -12,9 +12,9 @@ spaced-append (field ∷ fields) more =
 pub record HasFields (first : List ℕ) (fields : List (List ℕ)) (line : List ℕ) : Type 0 where
   pub text : line ≡ first ++ spaced fields
 
-pub begun : (first line : List ℕ) → line ≡ first → HasFields first [] line
+pub line_begins : (first line : List ℕ) → line ≡ first → HasFields first [] line
 unfolding spaced
-begun first line same = record { text = same ∙ sym (append-nil first) }
+line_begins first line same = record { text = same ∙ sym (append-nil first) }
 
 pub pushed : {first : List ℕ} {fields : List (List ℕ)} {line : List ℕ} (more : List (List ℕ)) (new : List ℕ) → HasFields first fields line → new ≡ line ++ spaced more → HasFields first (fields ++ more) new
 pushed {first} {fields} {line} more new before step = record {
@@ -31,4 +31,4 @@ pushed_two line mid new first second before step =
 
 -- a line with no more fields than before
 pub unchanged : (line : List ℕ) → HasFields line [] line
-unchanged line = begun line line refl
+unchanged line = line_begins line line refl

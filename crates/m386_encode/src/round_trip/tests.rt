@@ -5,7 +5,7 @@ use arrayvec::ArrayVec;
 use m386_decode::bytes::decode_bytes;
 use m386_opmap::op::Op;
 use m386_opmap::row::Row;
-use m386_opmap::rows::ROWS;
+use m386_opmap::rows::OPCODE_ROWS;
 use std::process::Abort;
 use std::test::Fail;
 
@@ -75,7 +75,7 @@ fn is_with(rt: &impl Abort, row: &Row, prefix: Option<u8>) -> bool {
 #[test]
 fn an_operation_of_each_row_is_written_and_decoded_again(rt: HostRuntime) -> Result<(), Fail> {
     let mut rows = 0;
-    for (place, row) in ROWS.iter().enumerate() {
+    for (place, row) in OPCODE_ROWS.iter().enumerate() {
         for prefix in PREFIXES {
             let refused = prefix == Some(0xf0) && !row.lock;
             assert_eq!(rt; is_with(&rt, row, prefix), !refused, "{row:?} {prefix:?}");

@@ -1,7 +1,7 @@
 use Rattle.std.proofs.Common.{sym, ◌∙◌, refl}
 use Rattle.m386_alu.specs.Width.{bits}
 use Rattle.m386_alu.proofs.Carries.{some_bits}
-use Rattle.m386_alu.proofs.Moves.{pair_of}
+use Rattle.m386_alu.proofs.Moves.{pair_from}
 use Rattle.m386_alu.proofs.Rotating.{rcr_after}
 use Rattle.m386_alu.proofs.rotates.rotate_right_with_carry.Goals as goal
 
@@ -9,7 +9,7 @@ pub returns : goal.returns
 returns c =
     let w = c.args.width in
     let e = rcr_after (bits w) c.args.count c.args.number c.args.carry (some_bits w) c.requires.fits c.requires.carry in
-    pair_of c.part.result _ _
+    pair_from c.part.result _ _
     (rw (c.part.ensures.value, c.turn_right.ensures.exact, c.bits_of.ensures, c.join.ensures.exact) refl)
     (rw (c.part.ensures.carry, c.turn_right.ensures.exact, c.bits_of.ensures, c.join.ensures.exact) refl)
     ∙ sym e

@@ -3,13 +3,13 @@ use Rattle.std.proofs.Common.{◌≡◌, subst, length}
 use Rattle.m386_opmap.specs.declared.outcome.Reading.{Reading}
 use Rattle.m386_opmap.specs.declared.outcome.Reading.TheVariants.{Spelled}
 use Rattle.m386_opmap.specs.Spelling.{IsReadingOf}
-use Rattle.m386_encode.proofs.Read.{read_whole, whole_read}
+use Rattle.m386_encode.proofs.Read.{whole_is_spelling, whole_read}
 use Rattle.m386_encode.proofs.encode.spells.Goals as goal
 
 pub returns-then-len-bytes-clause-yes : goal.returns-then-len-bytes-clause-yes
 returns-then-len-bytes-clause-yes c r =
     let P : Reading → Type 0 = λ x. IsReadingOf c.args.bytes.now x in
-    read_whole _ c.in-Spelled.read _ c.in-Spelled.len (subst P c.in-Spelled.is c.reading.ensures.says) c.if-len-bytes.true (c.same_op.ensures.yes r)
+    whole_is_spelling _ c.in-Spelled.read _ c.in-Spelled.len (subst P c.in-Spelled.is c.reading.ensures.says) c.if-len-bytes.true (c.same_op.ensures.yes r)
 
 pub returns-then-len-bytes-clause-no : goal.returns-then-len-bytes-clause-no
 returns-then-len-bytes-clause-no c s =

@@ -1,12 +1,12 @@
 use Rattle.std.proofs.Common.{codes}
-use Rattle.m386_trace.proofs.Lines.{begun, pushed, ended}
+use Rattle.m386_trace.proofs.Lines.{line_begins, pushed, ended}
 use Rattle.m386_trace.specs.Report.{cycle_text}
 use Rattle.m386_trace.proofs.cycle.cycle_line.Goals as goal
 
 pub returns-clause-text : goal.returns-clause-text
 unfolding cycle_text
 returns-clause-text c =
-    let first = begun (codes "c") _ (rw c.new-line.ensures at c.push_str.ensures.bytes) in
+    let first = line_begins (codes "c") _ (rw c.new-line.ensures at c.push_str.ensures.bytes) in
     let cpu = pushed _ _ first (rw c.from.ensures at c.push_decimal.ensures.bytes) in
     let space = pushed _ _ cpu c.push_word.ensures.bytes in
     let write = pushed _ _ space c.push_word-2.ensures.bytes in

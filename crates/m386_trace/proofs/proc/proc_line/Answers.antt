@@ -1,12 +1,12 @@
 use Rattle.std.proofs.Common.{codes}
-use Rattle.m386_trace.proofs.Lines.{begun, pushed, ended}
+use Rattle.m386_trace.proofs.Lines.{line_begins, pushed, ended}
 use Rattle.m386_trace.specs.Report.{proc_text}
 use Rattle.m386_trace.proofs.proc.proc_line.Goals as goal
 
 pub returns-clause-text : goal.returns-clause-text
 unfolding proc_text
 returns-clause-text c =
-    let first = begun (codes "p") _ (rw c.new-line.ensures at c.push_str.ensures.bytes) in
+    let first = line_begins (codes "p") _ (rw c.new-line.ensures at c.push_str.ensures.bytes) in
     let cpu = pushed _ _ first (rw c.from.ensures at c.push_decimal.ensures.bytes) in
     let mode = pushed _ _ cpu (rw c.mode_word.ensures.word at c.push_word.ensures.bytes) in
     let name = pushed _ _ mode c.push_word-2.ensures.bytes in

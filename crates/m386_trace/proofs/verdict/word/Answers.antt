@@ -1,6 +1,6 @@
-use Rattle.m386_trace.proofs.Lines.{begun}
+use Rattle.m386_trace.proofs.Lines.{line_begins}
 use Rattle.m386_trace.proofs.verdict.word.Goals as goal
 
 pub returns-clause-bytes : goal.returns-clause-bytes
 returns-clause-bytes c =
-    let line = begun c.args.text.now _ (rw c.new-line.ensures at c.push_str.ensures.bytes) in line.text
+    let line = line_begins c.args.text.now _ (rw c.new-line.ensures at c.push_str.ensures.bytes) in line.text

@@ -1,11 +1,11 @@
 use Rattle.std.proofs.Common.{◌≡◌, ◌-◌, length, arith}
 use Rattle.m386_tss.specs.Orders.{saved_fields}
-use Rattle.m386_tss.proofs.Rising.{rising_from, length-grown}
+use Rattle.m386_tss.proofs.Rising.{counting_from, length-grown}
 use Rattle.m386_tss.proofs.orders.save_order.Goals as goal
 
 -- src/orders.rt:15:5
 pub loop-number-init : goal.loop-number-init
-unfolding rising_from
+unfolding counting_from
 loop-number-init c = c.new-order.ensures
 
 -- src/orders.rt:16:9
@@ -16,7 +16,7 @@ push-requires c =
 
 -- src/orders.rt:10:1
 pub returns : goal.returns
-unfolding rising_from saved_fields
+unfolding counting_from saved_fields
 returns c =
     let end : c.loop-number.number ≡ 24 = omega arith in
     rw end at c.loop-number.invariant

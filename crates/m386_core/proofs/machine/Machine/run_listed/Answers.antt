@@ -1,7 +1,7 @@
 use Rattle.std.proofs.Common.{◌<◌, ◌≤◌, drop, ◌∙◌, sym, subst, ap, get_or, Ok}
 use Rattle.m386_core.specs.Machine.{MachineView}
 use Rattle.m386_core.specs.Order.{listed}
-use Rattle.m386_core.specs.Running.{Stands}
+use Rattle.m386_core.specs.Running.{OrderAt}
 use Rattle.m386_core.proofs.Groups.{made_not_passed}
 use Rattle.m386_core.proofs.Runs.{listed_begin, listed_skips, listed_next, listed_all, within}
 use Rattle.m386_core.proofs.Turning.{match_err, err_differs, made_differs}
@@ -12,7 +12,7 @@ pub loop-cpu-init : goal.loop-cpu-init
 loop-cpu-init c = listed_begin c.args.members.now c.args.self.now c.cpus-cpus.ensures.kept
 
 pub returns-in_err-next-clause-order : goal.returns-in_err-next-clause-order
-returns-in_err-next-clause-order c = λ order s. match_err c.from_residual.result _ _ c.from_residual.ensures.0 (λ _. (listed (within c.args.self.now.cpus (drop c.loop-cpu.cpu-index c.args.members.now)), subst (λ (m : MachineView). Stands order m (listed (within c.args.self.now.cpus (drop c.loop-cpu.cpu-index c.args.members.now)))) (sym (c.in_err-next.ensures.same err_differs)) (c.loop-cpu.invariant.order order s)))
+returns-in_err-next-clause-order c = λ order s. match_err c.from_residual.result _ _ c.from_residual.ensures.0 (λ _. (listed (within c.args.self.now.cpus (drop c.loop-cpu.cpu-index c.args.members.now)), subst (λ (m : MachineView). OrderAt order m (listed (within c.args.self.now.cpus (drop c.loop-cpu.cpu-index c.args.members.now)))) (sym (c.in_err-next.ensures.same err_differs)) (c.loop-cpu.invariant.order order s)))
 
 pub loop-cpu-preserved : goal.loop-cpu-preserved
 loop-cpu-preserved c = elim c.if-cpu-cpus.branch [

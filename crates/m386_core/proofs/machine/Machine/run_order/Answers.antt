@@ -1,14 +1,14 @@
 use Rattle.std.proofs.Common.{filter, ltb}
 use Rattle.m386_core.specs.declared.order.Order.TheVariants as orders
 use Rattle.m386_core.specs.Order.{listed}
-use Rattle.m386_core.specs.Running.{Stands}
+use Rattle.m386_core.specs.Running.{OrderAt}
 use Rattle.m386_core.proofs.Runs.{begins_order, run_on}
 use Rattle.m386_core.proofs.machine.Machine.run_order.Goals as goal
 
 pub returns-in_err-run_listed-in-List-clause-order : goal.returns-in_err-run_listed-in-List-clause-order
 returns-in_err-run_listed-in-List-clause-order c =
     λ none. (
-    let at : Stands (orders.List c.in-List.members) c.args.self.now (listed (filter (λ p. ltb p c.args.self.now.cpus) c.as_slice.result.now)) = rw c.as_slice.ensures (begins_order (orders.List c.in-List.members) c.args.self.now none) in
+    let at : OrderAt (orders.List c.in-List.members) c.args.self.now (listed (filter (λ p. ltb p c.args.self.now.cpus) c.as_slice.result.now)) = rw c.as_slice.ensures (begins_order (orders.List c.in-List.members) c.args.self.now none) in
     rw c.in-List.is (c.in_err-run_listed-in-List.ensures.order (orders.List c.in-List.members) at))
 
 pub returns-in-Round-clause-run : goal.returns-in-Round-clause-run
@@ -29,5 +29,5 @@ returns-in_ok-run_listed-in-List-clause-run c = run_on c.run_turns-in-List.resul
 pub returns-in_ok-run_listed-in-List-clause-order : goal.returns-in_ok-run_listed-in-List-clause-order
 returns-in_ok-run_listed-in-List-clause-order c =
     λ none. (
-    let at : Stands (orders.List c.in-List.members) c.args.self.now (listed (filter (λ p. ltb p c.args.self.now.cpus) c.as_slice.result.now)) = rw c.as_slice.ensures (begins_order (orders.List c.in-List.members) c.args.self.now none) in
+    let at : OrderAt (orders.List c.in-List.members) c.args.self.now (listed (filter (λ p. ltb p c.args.self.now.cpus) c.as_slice.result.now)) = rw c.as_slice.ensures (begins_order (orders.List c.in-List.members) c.args.self.now none) in
     rw c.in-List.is (c.run_turns-in-List.ensures.order (orders.List c.in-List.members) (c.in_ok-run_listed-in-List.ensures.order (orders.List c.in-List.members) at)))
