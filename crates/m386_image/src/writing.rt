@@ -4,6 +4,7 @@ ghost use Rattle.m386_image.specs.Format.{HasText, u16_bytes, u32_bytes, head_te
 ghost use Rattle.std.specs.List.{flat_map, AllByRecursion};
 
 use crate::image::{Image, Section};
+use byteorder::{ByteOrder, LittleEndian};
 use m386_base::fault::NoMemory;
 use std::alloc::Global;
 
@@ -12,7 +13,9 @@ use std::alloc::Global;
 fn put_u16(out: &mut Vec<u8>, number: u16) -> Result<(), NoMemory>
     ensures { OnOk result (out.new.items ≡ out.old.items ++ u16_bytes number) }
 {
-    out.extend_from_slice(&number.to_le_bytes())?;
+    let mut field = [0; 2];
+    LittleEndian::write_u16(&mut field, number);
+    out.extend_from_slice(&field)?;
     Ok(())
 }
 
@@ -21,7 +24,9 @@ fn put_u16(out: &mut Vec<u8>, number: u16) -> Result<(), NoMemory>
 fn put_u32(out: &mut Vec<u8>, number: u32) -> Result<(), NoMemory>
     ensures { OnOk result (out.new.items ≡ out.old.items ++ u32_bytes number) }
 {
-    out.extend_from_slice(&number.to_le_bytes())?;
+    let mut field = [0; 4];
+    LittleEndian::write_u32(&mut field, number);
+    out.extend_from_slice(&field)?;
     Ok(())
 }
 
