@@ -2,12 +2,14 @@
 ghost use Rattle.std.specs.Prelude.{◌≡◌, ◌<◌, All, IfOk};
 
 use crate::cycle::cycle_line;
+use crate::machine::machine_line;
 use crate::proc::proc_line;
 use crate::report::report;
 use crate::verdict::verdict_line;
 use crate::words::role_word;
 use m386_base::ask::{Ask, Cycle, Role, Space};
 use m386_base::list::List;
+use m386_base::number::Flags;
 use m386_book::verdict::Verdict;
 use m386_edge::failed::Failed;
 use m386_edge::mem_sink::MemSink;
@@ -16,8 +18,8 @@ use m386_memory::ended::ProcEnd;
 use m386_memory::history::Record;
 use m386_memory::store::Store;
 use m386_state::event::{Cause, Event};
-use m386_state::proc::{Mode, Proc, start_bare};
-use m386_state::segment::TableReg;
+use m386_state::proc::{Mode, Proc, start_bare, unusable};
+use m386_state::segment::{Seg, TableReg};
 use std::alloc::Global;
 use std::test::Fail;
 
@@ -207,16 +209,106 @@ fn processors_at_their_end(rt: HostRuntime) {
     assert!(rt; proc_line(0, &end).as_str().ends_with(" pending 06 -\n"));
 }
 
+/// A segment's register with this selector.
+fn selected(selector: u16) -> Seg {
+    Seg {
+        selector,
+        ..unusable(0)
+    }
+}
+
+#[test]
+fn each_field_of_a_processor_stands_in_its_place(rt: HostRuntime) {
+    let table = TableReg {
+        base: 0x7777,
+        limit: 0x88,
+    };
+    let mut after = start_bare(0x1234_abcd, table, table);
+    after.eflags = Flags(0x0000_4ed7);
+    after.regs = [
+        0xa000_0001,
+        0xb000_0002,
+        0xc000_0003,
+        0xd000_0004,
+        0xe000_0005,
+        0xf000_0006,
+        0x9000_0007,
+        0x8000_0008,
+    ];
+    after.segs = [
+        selected(0x1113),
+        selected(0x2222),
+        selected(0x333f),
+        selected(0x444a),
+        selected(0x555c),
+        selected(0x666d),
+    ];
+    after.ldtr = selected(0x7770);
+    after.tr = selected(0x888b);
+    after.cr0 = 0xb;
+    // What doesn't stand in the line.
+    after.shadow = true;
+    after.request = Some(0x21);
+    after.start = Some(0x28);
+    let fields =
+        " eip 1234abcd efl 00004ed7 eax a0000001 ecx b0000002 edx c0000003 ebx d0000004 esp e0000005 ebp f0000006 esi 90000007 edi 80000008 es 1113 cs 2222 ss 333f ds 444a fs 555c gs 666d ldt 7770 tr 888b cr0 0000000b pending none\n";
+    for (cpu, mode, steps, begin) in [
+        (0, Mode::Running, 0, "p 0 running steps 0"),
+        (1, Mode::Halted, 10, "p 1 halted steps 10"),
+        (
+            7,
+            Mode::Shutdown,
+            4_294_967_295,
+            "p 7 shutdown steps 4294967295",
+        ),
+    ] {
+        after.mode = mode;
+        let end = ProcEnd { after, steps };
+        let line = proc_line(cpu, &end);
+        assert_eq!(rt; line.as_str().strip_prefix(begin), Some(fields), "{begin}");
+    }
+}
+
+#[test]
+fn each_field_of_a_cycle_stands_in_its_place(rt: HostRuntime) {
+    let cycle = Cycle {
+        cpu: 5,
+        ask: Ask {
+            space: Space::Port,
+            write: false,
+            joined: true,
+            role: Role::Map,
+            part: 42,
+            addr: 0x89ab_cdec,
+            enables: 10,
+            value: 0x7600_5400,
+        },
+    };
+    assert_eq!(rt;
+        cycle_line(&cycle).as_str(),
+        "c 5 p r + map 42 89abcdec a 76005400\n"
+    );
+}
+
 #[test]
 fn verdicts(rt: HostRuntime) {
     assert_eq!(rt; verdict_line(None).as_str(), "unjudged\n");
     assert_eq!(rt; verdict_line(Some(&Verdict::Clean)).as_str(), "clean\n");
-    assert_eq!(rt;
-        verdict_line(Some(&Verdict::Static(4))).as_str(),
-        "unclean rule 4\n"
-    );
-    let at = Verdict::At { rule: 8, index: 6 };
-    assert_eq!(rt; verdict_line(Some(&at)).as_str(), "unclean rule 8 at 6\n");
+    for (verdict, line) in [
+        (Verdict::Static(1), "unclean rule 1\n"),
+        (Verdict::Static(4), "unclean rule 4\n"),
+        (Verdict::At { rule: 6, index: 0 }, "unclean rule 6 at 0\n"),
+        (Verdict::At { rule: 8, index: 10 }, "unclean rule 8 at 10\n"),
+        (
+            Verdict::At {
+                rule: 9,
+                index: 18_446_744_073_709_551_615,
+            },
+            "unclean rule 9 at 18446744073709551615\n",
+        ),
+    ] {
+        assert_eq!(rt; verdict_line(Some(&verdict)).as_str(), line);
+    }
 }
 
 /// A record of that store and a read of what it wrote.
@@ -237,18 +329,35 @@ fn two_cycles(alloc: Global) -> Result<Record, Fail>
     Ok(log)
 }
 
-/// Its report, to a sink whose write with this number fails.
-fn written(alloc: Global, fails: u32) -> Result<(MemSink, Result<(), Failed>), Fail> {
-    let image = Image {
-        memory: 16384,
-        cpus: 1,
+#[test]
+fn the_line_of_the_machine(rt: HostRuntime) {
+    for (memory, has, cpus, line) in [
+        (0x0100_0000, 8, 8, "memory 01000000 cpus 8\n"),
+        (0x00ab_c000, 8, 3, "memory 00abc000 cpus 3\n"),
+        (0x1000, 1, 1, "memory 00001000 cpus 1\n"),
+    ] {
+        let image = image_of(rt.alloc(), memory, has);
+        assert_eq!(rt; machine_line(&image, cpus).as_str(), line);
+    }
+}
+
+/// An image of so much memory and so many processors.
+fn image_of(alloc: Global, memory: u32, cpus: u8) -> Image {
+    Image {
+        memory,
+        cpus,
         flags: 0,
         gdt: TableAt { base: 0, limit: 0 },
         idt: TableAt { base: 0, limit: 0 },
         starts: [0x1000, 0, 0, 0, 0, 0, 0, 0],
         plan: List::new(alloc),
         sections: List::new(alloc),
-    };
+    }
+}
+
+/// Its report, to a sink whose write with this number fails.
+fn written(alloc: Global, fails: u32) -> Result<(MemSink, Result<(), Failed>), Fail> {
+    let image = image_of(alloc, 16384, 1);
     let log = two_cycles(alloc)?;
     let mut sink = MemSink::new(alloc, 512, 4096, [fails].to_vec(alloc)?)?;
     let ended = report(
