@@ -299,10 +299,29 @@ def cases():
     others = [bytes([p]) + s for p in [*PREFIX, *REPEATS] for s in rows]
     odd = [bytes.fromhex(t) + TAIL for t in ODD]
     found = {}
-    for strings in (plain, narrow, locked, others, odd):
+    for strings in (plain, narrow, locked):
+        swept_answers = answers(strings)
+        for data, answer in cut_where_refused(strings, swept_answers):
+            found.setdefault(data, answer)
+    for strings in (others, odd):
         for data, (length, answer) in zip(strings, answers(strings)):
             found.setdefault(data[:length], answer)
     return [*found.items(), *fronts(rows), *lengths()]
+
+
+def cut_where_refused(strings, found):
+    """"Where bytes are refused": at the opcode's last byte where no middle bits make an operation of it, else at the ModRM byte.
+    So each refused string ends there, and where some middle bits do, the bytes up to the opcode want more."""
+    heads = [s[: Parts(s).behind] for s in strings]
+    known = {}
+    for head, (length, answer) in zip(heads, found):
+        if not answer.startswith("#"):
+            known[head] = min(length, known.get(head, length))
+    for head, least in known.items():
+        if least > len(head):
+            yield head, "more"
+    for data, head, (length, answer) in zip(strings, heads, found):
+        yield data[: len(head) + (head in known) if answer.startswith("#") else length], answer
 
 
 def first_of_each_row(known, bare, plain):
