@@ -2,15 +2,16 @@
 """Compares whole instructions with this machine's own processor, which must be of the x86 family under Linux. No part of the gate.
 
 usage: tools/compare_instructions.py [COUNT [SEED [NAME..]]]      COUNT cases (100,000) of each name, drawn by the seed (386)
-       tools/compare_instructions.py --stored [EACH [SEED]]       prints the cases that the gate runs: EACH (8) of each form
+       tools/compare_instructions.py --stored [EACH [SEED]]       prints the cases that the gate runs
 
 run_instruction.c, which gcc builds here, runs each case of instruction_cases.py in a process of 32 bits; what it answers
 is written behind the case, and m386_cases, which this script proves and builds, makes one step over each and compares registers,
 flags, EIP, the exception and memory. Flags that the manual leaves undefined are left out, for each operation as undefined_flags
 names them. Printed is how many cases of each name differ, with the first few of them; the exit status is 1 if there is one.
 
-The stored cases set only what the instruction names, and leave the rest as m386_cases begins. Some of them are wrong on purpose,
-under the name WRONG: the program has to find each.
+The stored cases are EACH (8) of each form, and one of each ModRM and SIB byte that names memory. They set only what the
+instruction names, and leave the rest as m386_cases begins. Some are wrong on purpose, under the name WRONG: the program has to
+find each.
 """
 import os
 import random
@@ -20,7 +21,7 @@ import sys
 import tempfile
 import time
 
-from instruction_cases import AREA, AREA_SIZE, CODE, COMPARED, FIRST_AREA, FIRST_REGISTERS, FORMS, NAMES, case_of
+from instruction_cases import AREA, AREA_SIZE, CODE, COMPARED, FIRST_AREA, FIRST_REGISTERS, FORMS, NAMES, PLAIN, SCALED, case_of
 
 HERE = os.path.dirname(os.path.abspath(__file__))
 CRATE = f"{HERE}/../crates/m386_cases"
@@ -152,6 +153,8 @@ def stored(each, seed):
     """The lines of the gate's cases."""
     dice = random.Random(seed)
     cases = [case_of(dice, form, False) for form in FORMS for _ in range(each)]
+    reaching = [form for form in FORMS if form.place == "memory"]
+    cases += [case_of(dice, dice.choice(reaching), False, shape) for shape in PLAIN + SCALED]
     with tempfile.TemporaryDirectory() as folder:
         found = answers(built_processor(folder), cases)
     return [*map(line, cases, found), *wrong_lines(cases, found)]

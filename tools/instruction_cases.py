@@ -208,7 +208,7 @@ def set_memory(case, address, size, value):
     case.area[address - AREA : address - AREA + size] = (value % (1 << 8 * size)).to_bytes(size, "little")
 
 
-@dataclass
+@dataclass(frozen=True)
 class Shape:
     """A memory operand as a ModRM byte spells it: its parts, of which each register counts `factors` times."""
 
@@ -218,21 +218,25 @@ class Shape:
     size: int
 
 
-def shape(dice):
-    """A random form of a memory operand."""
-    mod, low = dice.randrange(3), dice.choice([0, 1, 2, 3, 4, 4, 4, 4, 5, 5, 6, 7])
-    factors, sib, size = {}, b"", (0, 1, 4)[mod]
-    base = low
+def shape_of(mod, low, sib):
+    """The memory operand of a ModRM byte's fields, and of a SIB byte where the low one is 4."""
+    factors, base = {}, low
     if low == 4:
-        base, index, scale = dice.randrange(8), dice.randrange(8), dice.randrange(4)
-        sib = bytes([scale << 6 | index << 3 | base])
+        base, index = sib & 7, sib >> 3 & 7
         if index != 4:
-            factors[index] = 1 << scale
-    if base == 5 and mod == 0:
-        size = 4
-    else:
+            factors[index] = 1 << (sib >> 6)
+    is_bare = base == 5 and mod == 0
+    if not is_bare:
         factors[base] = factors.get(base, 0) + 1
-    return Shape(mod << 6 | low, sib, factors, size)
+    return Shape(mod << 6 | low, bytes([sib]) if low == 4 else b"", factors, 4 if is_bare else (0, 1, 4)[mod])
+
+
+PLAIN = [shape_of(mod, low, 0) for mod in range(3) for low in range(8) if low != 4]
+SCALED = [shape_of(mod, 4, sib) for mod in range(3) for sib in range(256)]
+
+
+class Rejected(Exception):
+    """What was drawn so far fits no case."""
 
 
 def displacement(dice, size):
@@ -243,38 +247,33 @@ def displacement(dice, size):
 
 
 def divided(dice, value, factor):
-    """A number whose product with the factor is the value modulo 2^32, or None."""
+    """A number whose product with the factor is the value modulo 2^32."""
     odd = factor
     even = 1
     while odd % 2 == 0:
         odd, even = odd // 2, even * 2
     if value % even:
-        return None
+        raise Rejected
     low = value // even * pow(odd, -1, MODULUS) % (MODULUS // even)
     return (low + dice.randrange(even) * (MODULUS // even)) % MODULUS
 
 
-def address(dice, case, target, kept=()):
-    """A ModRM byte with the register field 0, and what follows it, for the address; sets registers other than those kept."""
-    while True:
-        form = shape(dice)
-        free = [r for r in form.factors if r not in kept]
-        added = displacement(dice, form.size)
-        if form.size == 4 and (not free or dice.random() < 0.5):
-            added = signed(target - sum(case.registers[r] * n for r, n in form.factors.items()), 32)
-        elif free:
-            solved = dice.choice(free)
-            for register in free:
-                case.registers[register] = number(dice, 32)
-            others = sum(case.registers[r] * n for r, n in form.factors.items() if r != solved)
-            value = divided(dice, (target - added - others) % MODULUS, form.factors[solved])
-            if value is None:
-                continue
-            case.registers[solved] = value
-        else:
-            continue
-        tail = (added % (1 << 8 * form.size)).to_bytes(form.size, "little") if form.size else b""
-        return bytes([form.modrm]) + form.sib + tail
+def address(dice, case, target, shape, kept=()):
+    """The ModRM byte of a shape with the register field 0, and what follows it, for an address; sets registers but for those kept."""
+    free = [r for r in shape.factors if r not in kept]
+    added = displacement(dice, shape.size)
+    if shape.size == 4 and (not free or dice.random() < 0.5):
+        added = signed(target - sum(case.registers[r] * n for r, n in shape.factors.items()), 32)
+    elif free:
+        solved = dice.choice(free)
+        for register in free:
+            case.registers[register] = number(dice, 32)
+        others = sum(case.registers[r] * n for r, n in shape.factors.items() if r != solved)
+        case.registers[solved] = divided(dice, (target - added - others) % MODULUS, shape.factors[solved])
+    else:
+        raise Rejected
+    tail = (added % (1 << 8 * shape.size)).to_bytes(shape.size, "little") if shape.size else b""
+    return bytes([shape.modrm]) + shape.sib + tail
 
 
 def prefixes(dice, form, memory):
@@ -369,8 +368,8 @@ def accumulators(dice, case):
         set_register(case, ECX, 8, counted(dice))
 
 
-def modrm(dice, case, reg):
-    """The ModRM byte and what follows it; sets the operand that it names."""
+def modrm(dice, case, reg, shape):
+    """The ModRM byte and what follows it, of a shape where it names memory; sets the operand that it names."""
     form = case.form
     value = operand_value(dice, form)
     if form.kind == "divide":
@@ -388,7 +387,7 @@ def modrm(dice, case, reg):
         place = target - form.width // 8 * (signed(get_register(case, reg, form.width), form.width) // form.width)
     if form.kind == "address":
         place = number(dice, 32)
-    bytes_after = bytearray(address(dice, case, place % MODULUS, kept))
+    bytes_after = bytearray(address(dice, case, place % MODULUS, shape, kept))
     bytes_after[0] |= reg << 3
     if form.kind == "bounds":
         value = bounds_value(dice, case, reg)
@@ -397,7 +396,7 @@ def modrm(dice, case, reg):
     return bytes(bytes_after)
 
 
-def operands(dice, case):
+def operands(dice, case, shape):
     """The bytes behind the opcode but for an immediate, and a number to add to the opcode."""
     form = case.form
     accumulators(dice, case)
@@ -405,7 +404,7 @@ def operands(dice, case):
         reg = dice.randrange(8) if form.digit is None else form.digit
         if form.digit is None:
             set_register(case, reg, form.width, number(dice, form.width))
-        return modrm(dice, case, reg), 0
+        return modrm(dice, case, reg, shape), 0
     if form.place == "low":
         low = dice.randrange(1 if form.opcode == b"\x90" else 0, 8)
         set_register(case, low, form.width, number(dice, form.width))
@@ -428,20 +427,28 @@ def scattered(dice, case):
         case.registers[dice.getrandbits(3)] = case.registers[dice.getrandbits(3)]
 
 
-def case_of(dice, form, everywhere):
-    """A random case of a form; `everywhere` sets what the instruction doesn't name too."""
+def drawn(dice, form, everywhere, shape):
+    """A random case of a form."""
+    case = Case(form)
+    if everywhere:
+        scattered(dice, case)
+    case.flags = 2 | dice.getrandbits(12) & COMPARED
+    tail, low = operands(dice, case, shape)
+    is_count = form.kind == "shift by a number"
+    immediate = counted(dice) if is_count else number(dice, 8 * form.immediate) if form.immediate else 0
+    memory = form.place in ("memory", "offset") or form.kind == "table"
+    opcode = form.opcode[:-1] + bytes([form.opcode[-1] + low])
+    case.code = prefixes(dice, form, memory) + opcode + tail + immediate.to_bytes(form.immediate, "little")
+    if form.name in ("SHLD", "SHRD") and form.width == 16 and count_of(case, immediate) > 16:
+        raise Rejected
+    case.undefined = undefined_flags(case, immediate)
+    return case
+
+
+def case_of(dice, form, everywhere, shape=None):
+    """A random case of a form, and of a shape of its memory operand; `everywhere` sets what the instruction doesn't name too."""
     while True:
-        case = Case(form)
-        if everywhere:
-            scattered(dice, case)
-        case.flags = 2 | dice.getrandbits(12) & COMPARED
-        tail, low = operands(dice, case)
-        is_count = form.kind == "shift by a number"
-        immediate = counted(dice) if is_count else number(dice, 8 * form.immediate) if form.immediate else 0
-        memory = form.place in ("memory", "offset") or form.kind == "table"
-        opcode = form.opcode[:-1] + bytes([form.opcode[-1] + low])
-        case.code = prefixes(dice, form, memory) + opcode + tail + immediate.to_bytes(form.immediate, "little")
-        if form.name in ("SHLD", "SHRD") and form.width == 16 and count_of(case, immediate) > 16:
+        try:
+            return drawn(dice, form, everywhere, shape or dice.choice(SCALED if dice.random() < 0.4 else PLAIN))
+        except Rejected:
             continue
-        case.undefined = undefined_flags(case, immediate)
-        return case
