@@ -1,0 +1,203 @@
+#!/usr/bin/env python3
+"""Checks the built program as a whole: each status with its line, the limits and one beyond each, which of two causes is told,
+the orders, and runs of ample size, which have to be Done. `.ci/run` calls it behind `rt ci`, on each way the program was built.
+
+usage: check_program.py PROGRAM
+
+What is wanted is written out here, or worked out from the rules that docs/MACHINE.md and README.md state, by other means than
+the program's. Each answer that isn't the wanted one is printed, and the exit status is 1.
+"""
+import os
+import subprocess
+import sys
+
+USAGE = {k: f"m386: usage fault {k} {name}\n" for k, name in enumerate(["Command", "Line", "Value", "Cpus", "Budget"], 1)}
+IMAGE = {
+    n: f"m386: image fault {n} {name}\n"
+    for n, name in enumerate(
+        ["ShortHeader", "Magic", "Version", "MemorySize", "Processors", "Flags", "Truncated", "PlanOrder", "Section", "Trailing"], 1
+    )
+}
+MOST_BYTES = 20_971_520
+MOST_MEMORY = 16_777_216
+HALT = bytes([0xF4])
+LOOP = bytes([0xEB, 0xFE])  # JMP to itself: a step of one cycle
+FIRST = bytes.fromhex("b878563412a300200000f4")
+ROUND = ["run", "--order=round"]
+
+
+def image(code=FIRST, cpus=1, memory=16384, gdt=(0, 0), idt=(0, 0), more=()):
+    """An image whose processors all begin at 1000h, where the code stands, with further sections."""
+    sections = [(0x1000, code), *more]
+    head = b"M386" + (1).to_bytes(2, "little") + bytes([cpus, 0]) + memory.to_bytes(4, "little")
+    head += gdt[0].to_bytes(4, "little") + gdt[1].to_bytes(2, "little") + idt[1].to_bytes(2, "little") + idt[0].to_bytes(4, "little")
+    head += bytes(4) + len(sections).to_bytes(4, "little") + (0x1000).to_bytes(4, "little") * cpus + bytes(4 * (8 - cpus))
+    return head + b"".join(at.to_bytes(4, "little") + len(data).to_bytes(4, "little") + data for at, data in sections)
+
+
+def empty(memory):
+    """An image of so much memory, with no section, whose processor begins at 0."""
+    data = bytearray(image(memory=memory)[:64])
+    data[28:36] = bytes(8)
+    return bytes(data)
+
+
+class Checks:
+    """The calls of the program, and those that went wrong."""
+
+    def __init__(self, program):
+        self.program = os.path.abspath(program)
+        self.made, self.wrong = 0, 0
+
+    def want(self, holds, what):
+        self.made += 1
+        if not holds:
+            self.wrong += 1
+            print(f"WRONG: {what}"[:400])
+
+    def call(self, words, data, status, line=""):
+        """The output of a call, which has to end so, with this line on err, and with no output but at status 0."""
+        ended = subprocess.run([self.program, *words], input=data, capture_output=True, timeout=120)
+        out, err = ended.stdout.decode(), ended.stderr.decode()
+        good = ended.returncode == status and err == line and bool(out) == (status == 0)
+        shown = [w[:40] for w in words]
+        self.want(good, f"{shown} on {len(data)} bytes: {status} {line!r} is wanted, and it was {ended.returncode} {err!r} with {len(out)} bytes written")
+        return out
+
+    def run(self, words, data):
+        """The lines of the report of a call that has to be Done."""
+        return self.call([*ROUND, *words], data, 0).splitlines()
+
+
+def cycles(lines):
+    return [line.split() for line in lines if line.startswith("c ")]
+
+
+def ends(lines):
+    return [line.split() for line in lines if line.startswith("p ")]
+
+
+def statuses(checks):
+    """Each status of a call, and its line."""
+    one = image()
+    for words, kind in [
+        ([], 1), ([""], 1), (["Run"], 1), (["RUN"], 1), (["run "], 1), (["asm"], 1), (["--order=round"], 1), (["--steps=3", "run"], 1),
+        (["run", "run"], 2), ([*ROUND, ""], 2), ([*ROUND, "--"], 2), ([*ROUND, "--frob=1"], 2), ([*ROUND, "--steps"], 2), ([*ROUND, "--steps", "3"], 2),
+        ([*ROUND, "-steps=3"], 2), ([*ROUND, "--Steps=3"], 2), ([*ROUND, "--order=round"], 2), ([*ROUND, "--cpus=1", "--cpus=1"], 2),
+        ([*ROUND, "--seed=1", "--seed=1"], 2), ([*ROUND, "--steps=1", "--steps=1"], 2),
+        (["run"], 3), (["run", "--steps=3"], 3), (["run", "--order="], 3), (["run", "--order=Round"], 3), (["run", "--order=rounds"], 3),
+        (["run", "--order=seeds"], 3), (["run", "--order=list"], 3), ([*ROUND, "--steps="], 3), ([*ROUND, "--steps=x"], 3), ([*ROUND, "--steps=-1"], 3),
+        ([*ROUND, "--steps=+1"], 3), ([*ROUND, "--steps=1 "], 3), ([*ROUND, "--steps= 1"], 3), ([*ROUND, "--steps=0x1"], 3), ([*ROUND, "--steps=1."], 3),
+        ([*ROUND, "--cpus="], 3), ([*ROUND, "--cpus=0"], 3), ([*ROUND, "--seed="], 3), ([*ROUND, "--seed=x"], 3), ([*ROUND, "--steps=/"], 3), ([*ROUND, "--steps=:"], 3),
+        ([*ROUND, "--cpus=2"], 4), ([*ROUND, "--cpus=8"], 4),
+    ]:
+        checks.call(words, one, 2, USAGE[kind])
+    for words in [[b"\xff"], [b"run", b"--order=\xc3\x28"], [b"run", b"--order=round", b"--steps=\xed\xa0\x80"]]:
+        checks.call(words, one, 11, "m386: words unreadable\n")
+    edge(checks, one, 3, "m386: read fault\n", source=os.path.dirname(checks.program))
+    edge(checks, one, 4, "m386: write fault\n", sink="/dev/full")
+
+
+def edge(checks, data, status, line, source=None, sink=None):
+    """A call whose input or output fails."""
+    given = os.open(source, os.O_RDONLY) if source else subprocess.PIPE
+    with open(sink or os.devnull, "wb") as out:
+        ended = subprocess.run([checks.program, *ROUND, "--steps=3"], stdin=given if source else None, input=None if source else data, stdout=out, stderr=subprocess.PIPE, timeout=120)
+    if source:
+        os.close(given)
+    checks.want((ended.returncode, ended.stderr.decode()) == (status, line), f"a failing edge: {status} is wanted, and it was {ended.returncode} {ended.stderr!r}")
+
+
+def limits(checks):
+    """The greatest number of each kind is taken, and one more refused."""
+    one, eight = image(), image(HALT, cpus=8)
+    for words in [["--steps=0"], ["--steps=1"], ["--steps=65536"], ["--cpus=1"], ["--steps=00000000000000065536"], ["--seed=0"], ["--seed=18446744073709551615"]]:
+        checks.run(words, one)
+    for word in ["--steps=65537", "--steps=000000000000000000003", "--steps=4294967299", "--steps=18446744073709551619", "--seed=18446744073709551616",
+                 "--seed=99999999999999999999", "--seed=100000000000000000000", "--cpus=9", "--cpus=257", "--steps=" + "9" * 50_000]:
+        checks.call([*ROUND, word], one, 2, USAGE[3])
+    for words in [["--cpus=8", "--steps=32768"], ["--steps=32768"], ["--cpus=4", "--steps=65536"], ["--cpus=5", "--steps=52428"], ["--cpus=7", "--steps=37449"]]:
+        checks.run(words, eight)
+    for words in [["--cpus=8", "--steps=32769"], ["--steps=32769"], ["--cpus=5", "--steps=65536"], ["--cpus=5", "--steps=52429"], ["--cpus=7", "--steps=37450"], ["--steps=65536"]]:
+        checks.call([*ROUND, *words], eight, 2, USAGE[5])
+    checks.want(ends(checks.run([], image(LOOP)))[0][4] == "1000", "1,000 steps where no word bounds them")
+    checks.want([len(ends(checks.run(["--steps=1", *words], eight))) for words in ([], ["--cpus=3"])] == [8, 3], "all processors, and the first three")
+    for memory, taken in [(0, False), (4095, False), (4096, True), (4097, False), (8192, True), (MOST_MEMORY, True), (MOST_MEMORY + 4096, False), (2**32 - 4096, False)]:
+        checks.call([*ROUND, "--steps=0"], empty(memory), *((0,) if taken else (5, IMAGE[4])))
+    for cpus, taken in [(0, False), (1, True), (8, True)]:
+        checks.call([*ROUND, "--steps=1"], image(HALT, cpus=cpus), *((0,) if taken else (5, IMAGE[5])))
+    nine = bytearray(eight)
+    nine[6] = 9
+    checks.call([*ROUND, "--steps=1"], bytes(nine), 5, IMAGE[5])
+    checks.call(ROUND, bytes(MOST_BYTES), 5, IMAGE[2])
+    checks.call(ROUND, bytes(MOST_BYTES + 1), 7, "m386: input too long\n")
+
+
+def causes(checks):
+    """Where two causes stand together, which is told."""
+    one, bad = image(), image()[:-1]
+    for words, data, kind in [(["Run", "--frob"], one, 1), (["run", "--steps=x", "--frob"], one, 2), (["run", "--steps=x"], bad, 3), ([], b"", 1),
+                              (["run", "--order=seed", "--order=x"], b"", 2), ([*ROUND, "--steps=65537", "--cpus=2"], one, 3), ([*ROUND, "--cpus=8", "--steps=65536"], one, 4)]:
+        checks.call(words, data, 2, USAGE[kind])
+    checks.call([*ROUND, "--cpus=8", "--steps=65536"], bad, 5, IMAGE[7])
+    checks.call([*ROUND, "--cpus=2"], b"", 5, IMAGE[1])
+    checks.call(["Run"], bytes(MOST_BYTES + 1), 2, USAGE[1])
+
+
+def drawn(seed, count, made):
+    """The processors that the written rule draws, none of which is ever passed over."""
+    for _ in range(made):
+        seed = (seed * 6364136223846793005 + 1442695040888963407) % 2**64
+        yield (seed >> 33) % count
+
+
+def orders(checks):
+    """Who makes each cycle, where no processor finishes: in turn, or as the seed draws."""
+    for cpus in (1, 2, 3, 8):
+        lines = cycles(checks.run(["--steps=50"], image(LOOP, cpus=cpus)))
+        checks.want([int(c[1]) for c in lines] == [i % cpus for i in range(50 * cpus)], f"{cpus} processors in turn")
+    for word, seed in [([], 1), (["--seed=1"], 1), (["--seed=0"], 0), (["--seed=2"], 2), (["--seed=18446744073709551615"], 2**64 - 1)]:
+        for cpus in (2, 3, 8):
+            lines = cycles(checks.call(["run", "--order=seed", "--steps=500", *word], image(LOOP, cpus=cpus), 0).splitlines())
+            front = [int(c[1]) for c in lines[:400]]
+            checks.want(front == list(drawn(seed, cpus, 400)), f"{cpus} processors drawn by seed {seed}")
+
+
+def ample(checks):
+    """Runs of ample size are Done, and whole."""
+    checks.want(len(cycles(checks.run(["--steps=10000"], image(LOOP)))) == 10_000, "10,000 cycles")
+    checks.want(ends(checks.run(["--steps=65536"], image(LOOP)))[0][4] == "65536", "65,536 steps")
+    checks.want(len(cycles(checks.run(["--steps=32768"], image(LOOP, cpus=8)))) == 262_144, "262,144 cycles of eight processors")
+    last = MOST_MEMORY - 4
+    store = bytes.fromhex("b878563412a3") + last.to_bytes(4, "little") + b"\xa1" + last.to_bytes(4, "little")
+    lines = checks.run(["--steps=3"], image(store, memory=MOST_MEMORY))
+    checks.want(cycles(lines)[-1] == f"c 0 m r . data 00 {last:08x} f 12345678".split(), "the last doubleword of 16 MB")
+    checks.want(lines[1] == "memory 01000000 cpus 1", "16 MB")
+    whole = image(LOOP, memory=MOST_MEMORY, more=[(0x2000, bytes(MOST_MEMORY - 0x2000 - 1) + b"\x77")])
+    checks.want(ends(checks.run(["--steps=2"], whole))[0][4] == "2", "a section of nearly 16 MB")
+    load = b"\xa1\x02\x20\x00\x00\xa1\x00\x30\x00\x00"
+    three = image(load, more=[(0x2000, bytes.fromhex("0000a1b2c3d4")), (0x3000, bytes.fromhex("11223344"))])
+    seen = [c[-1] for c in cycles(checks.run(["--steps=2"], three)) if c[5] == "data"]
+    checks.want(seen == ["b2a10000", "0000d4c3", "44332211"], f"three sections: {seen}")
+    many = image(LOOP, more=[(0x2000 + 2 * i, bytes([i % 256])) for i in range(4096)])
+    checks.want(ends(checks.run(["--steps=2"], many))[0][4] == "2", "4,097 sections")
+
+
+def verdicts(checks):
+    """The last line, by the limit of the GDT and where it lies."""
+    for gdt, idt, line in [((0, 0), (0, 0), "clean"), ((0, 14), (0, 0xFFFF), "clean"), ((0, 15), (0, 0), "unjudged"), ((0x3FF1, 14), (0, 0), "clean"),
+                           ((0x3FF2, 14), (0, 0), "unclean rule 1"), ((0x2003, 0), (0, 0), "unclean rule 7 at 4"), ((0x2004, 0), (0x2000, 3), "clean")]:
+        lines = checks.run(["--steps=3"], image(gdt=gdt, idt=idt))
+        checks.want(lines[-1] == line, f"GDT {gdt}, IDT {idt}: {line} is wanted, and it was {lines[-1]}")
+
+
+def main():
+    checks = Checks(sys.argv[1])
+    for part in (statuses, limits, causes, orders, ample, verdicts):
+        part(checks)
+    print(f"{sys.argv[1]}: {checks.made} checks of the program, {checks.wrong} wrong")
+    return 1 if checks.wrong else 0
+
+
+if __name__ == "__main__":
+    sys.exit(main())
