@@ -1,3 +1,4 @@
 pub mod Contents
 pub mod History
 pub mod Fixed
+pub mod NoHistory

@@ -5,6 +5,7 @@ pub mod ended;
 pub mod fixed;
 mod group;
 pub mod history;
+pub mod laws;
 pub mod store;
 #[cfg(test)]
 mod tests;
