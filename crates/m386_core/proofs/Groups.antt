@@ -39,13 +39,13 @@ room_shrinks cpu old new m s =
     let b : 192 * new.budget * new.cpus ≡ 192 * old.budget * old.cpus = rw (s.same.budget, s.same.cpus) refl in
     omega arith
 
--- a group as far as it has been made
+-- a locked group as far as it has been made
 pub record GroupSoFar (cpu : ℕ) (old now : MachineView) : Type 0 where
   pub made : MakesGroup cpu old now
   pub kept : IsMachine now
   pub alone : (q : ℕ) → HasAmidGroup now q → q ≡ cpu
 
--- a processor that has just made a cycle is the only one that may be amid a group
+-- a processor that has just made a cycle is the only one that may be amid a locked group
 alone_after : (cpu : ℕ) (old now : MachineView) → MakesCycle cpu old now → ((q : ℕ) → q ≢ cpu → HasAmidGroup old q → ⊥) → (q : ℕ) → HasAmidGroup now q → q ≡ cpu
 alone_after cpu old now s none q h = elim (cases_eq q cpu) [
   | inl e ↦ e
@@ -90,7 +90,7 @@ group_more cpu old now new g amid s m =
       alone = alone_after cpu now new s (λ q other h. other (g.alone q h));
     }
 
--- amid its group a processor isn't passed over
+-- amid its locked group a processor isn't passed over
 pub amid_not_passed : (cpu : ℕ) (old now : MachineView) → GroupSoFar cpu old now → HasAmidGroup now cpu → PassesOver now cpu → ⊥
 amid_not_passed cpu old now g amid (inl f) = awaits_not_finished now.image now.budget now.log.cycles cpu amid.1.0 amid.1.1 f
 amid_not_passed cpu old now g amid (inr h) = h.1 (g.alone h.0 h.2)

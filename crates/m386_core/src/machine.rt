@@ -155,7 +155,7 @@ impl<'a> Machine<'a> {
 
     /// Makes the next cycle of a processor, and those joined to it that follow. It is passed over exactly where `next` passes
     /// it over. Otherwise no processor is amid a locked group afterwards. Where there is no memory to keep a cycle, the cycles
-    /// that this call made before stay, and their group may stand open.
+    /// that this call made before stay, and their locked group may stand open.
     pub fn group(&mut self, cpu: u8) -> Result<Turn, NoMemory>
         requires { cpu < self.old.cpus }
         ensures passed { (result ≡ Ok turns.PassedOver) ↔ PassesOver self.old cpu }

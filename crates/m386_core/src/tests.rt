@@ -120,7 +120,7 @@ fn each_order_names_in_its_way(rt: HostRuntime) -> Result<(), Fail> {
     Ok(())
 }
 
-/// One turn of a processor, for one cycle or for a whole group.
+/// One turn of a processor, for one cycle or for a whole locked group.
 fn turn(machine: &mut Machine<'_>, cpu: u8, whole: bool) -> Result<Turn, NoMemory> {
     if cpu >= machine.cpus() {
         return Ok(Turn::PassedOver);

@@ -1,4 +1,4 @@
-//! What a processor's thread passes before each cycle that begins a group.
+//! What a processor's thread passes before each cycle that begins a locked group, or stands alone.
 
 /// Where a processor's thread may be held back. It holds neither lock nor ticket then.
 pub trait Gate {

@@ -1,4 +1,4 @@
--- The bytes of a group in and out of its value.
+-- The bytes of an aligned group in and out of its value.
 use Rattle.std.proofs.Common.{◌≡◌, ℕ, ◌+◌, ◌*◌, ◌/◌, ◌%◌, ◌^◌, ◌<◌, ◌==◌, Bool, true, false, cond, List, [], ◌∷◌, ◌++◌, bit_and, refl, sym, ◌∙◌, ap, arith, add-zero, not, set}
 use Rattle.std.proofs.lemmas.Nat.{and_block, and_mask}
 use Rattle.m386_base.specs.declared.ask.Ask.{Ask}
@@ -49,7 +49,7 @@ value-four e a b c d =
 mask-value : (e : ℕ) → mask e ≡ value_from e 255 255 255 255
 mask-value e = refl
 
--- a value of a group has zeros for the bytes that aren't enabled
+-- a value of an aligned group has zeros for the bytes that aren't enabled
 pub value_enabled : (e a b c d : ℕ) → a < 256 → b < 256 → c < 256 → d < 256 → IsEnabled e (value_from e a b c d)
 value_enabled e a b c d p q r s =
     let m : mask e ≡ four (kept (off e 0) 255) (kept (off e 1) 255) (kept (off e 2) 255) (kept (off e 3) 255) = mask-value e ∙ value-four e 255 255 255 255 in
@@ -83,7 +83,7 @@ byte-2 a b c d p q r = omega arith
 byte-3 : (a b c d : ℕ) → a < 256 → b < 256 → c < 256 → d < 256 → four a b c d / 16777216 % 256 ≡ d
 byte-3 a b c d p q r s = omega arith
 
--- the bytes of a group stand in its value
+-- the bytes of an aligned group stand in its value
 pub group_stands : (byte : ℕ → ℕ) (a : Ask) → byte a.addr < 256 → byte (a.addr + 1) < 256 → byte (a.addr + 2) < 256 → byte (a.addr + 3) < 256 → a.value ≡ group_of byte a.addr a.enables → Stand byte (bytes_of a)
 unfolding bytes_of group_of
 group_stands byte a p q r s v =
@@ -101,11 +101,6 @@ group_stands byte a p q r s v =
     (stand-byte byte a 1 (λ h. sym (ap (λ n. n / 256 % 256) e ∙ b1 ∙ kept-on (off a.enables 1) (byte (a.addr + 1)) h))))
     (stand-byte byte a 2 (λ h. sym (ap (λ n. n / 65536 % 256) e ∙ b2 ∙ kept-on (off a.enables 2) (byte (a.addr + 2)) h))))
     (stand-byte byte a 3 (λ h. sym (ap (λ n. n / 16777216 % 256) e ∙ b3 ∙ kept-on (off a.enables 3) (byte (a.addr + 3)) h)))
-
--- the bytes of an ask are those of its group
-pub bytes-group : (a : Ask) → bytes_of a ≡ group_bytes a.addr a.enables a.value
-unfolding bytes_of
-bytes-group a = refl
 
 -- two lists of bytes are put one after the other, the later list first
 with_bytes-append : (xs : List ℕ) (bs cs : List (ℕ × ℕ)) → with_bytes xs (bs ++ cs) ≡ with_bytes (with_bytes xs cs) bs
@@ -130,7 +125,7 @@ nought : (p : Bool) → cond {A = ℕ} p 0 0 ≡ 0
 nought true = refl
 nought false = refl
 
--- a group where each byte is 0
+-- an aligned group where each byte is 0
 pub group_of-zeros : (addr enables : ℕ) → 0 ≡ group_of (λ a. 0) addr enables
 unfolding group_of
 group_of-zeros addr enables =

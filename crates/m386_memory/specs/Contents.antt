@@ -1,4 +1,4 @@
--- The bytes of memory and of the ports, and the groups of four that a cycle reads and writes.
+-- The bytes of memory and of the ports, and the aligned groups of four that a cycle reads and writes.
 use Rattle.std.specs.Prelude.{ℕ, ◌≡◌, ◌≤◌, ◌+◌, ◌*◌, ◌%◌, ◌^◌, ◌==◌, Bool, false, List, [], ◌∷◌, length, take, drop, ◌++◌, slice_index_or, slice_set, nat_lt, bit_and, replicate, if◌then◌else◌}
 use Rattle.m386_base.specs.declared.ask.Space.{Space}
 use Rattle.m386_base.specs.declared.ask.Space.TheVariants.{Memory, Port}
@@ -42,24 +42,24 @@ holds_byte c s a = nat_lt a (length (space_in c s))
 unfoldable pub zeros : ℕ → List ℕ
 zeros n = replicate n 0
 
--- byte k of a group at its place in the value, where it is enabled
+-- byte k of an aligned group at its place in the value, where it is enabled
 abbrev pub byte_part : ℕ → ℕ → ℕ → ℕ
 byte_part enables k byte = if bit_and enables (2 ^ k) == 0 then 0 else byte * 2 ^ (8 * k)
 
--- The value of a group of four bytes: the enabled ones, the first lowest, and zeros for the others.
+-- The value of an aligned group of four bytes: the enabled ones, the first lowest, and zeros for the others.
 -- Source: Intel 80386 PRM 2.2
 abbrev pub value_from : ℕ → ℕ → ℕ → ℕ → ℕ → ℕ
 value_from enables b0 b1 b2 b3 = byte_part enables 0 b0 + byte_part enables 1 b1 + byte_part enables 2 b2 + byte_part enables 3 b3
 
--- the value of the group at an address, where these are the bytes at each place
+-- the value of the aligned group at an address, where these are the bytes at each place
 unfoldable pub group_of : (ℕ → ℕ) → ℕ → ℕ → ℕ
 group_of byte addr enables = value_from enables (byte addr) (byte (addr + 1)) (byte (addr + 2)) (byte (addr + 3))
 
--- the value of a group of one space
+-- the value of an aligned group of one space
 abbrev pub group_in : Contents → Space → ℕ → ℕ → ℕ
 group_in c s addr enables = group_of (byte_in c s) addr enables
 
--- the enabled bytes of a group that has this value, each with its place
+-- the enabled bytes of an aligned group that has this value, each with its place
 abbrev pub group_bytes : ℕ → ℕ → ℕ → List (ℕ × ℕ)
 group_bytes addr enables value = bytes_of (record { space = Memory; write = false; joined = false; role = roles.Fetch; part = 0; addr = addr; enables = enables; value = value })
 

@@ -14,7 +14,7 @@ fn byte_at(bytes: &[u8], place: usize, beyond: u8) -> u8
     }
 }
 
-/// The value of a group of these four bytes, with zeros for those that aren't enabled.
+/// The value of an aligned group of these four bytes, with zeros for those that aren't enabled.
 fn value(enables: u8, b0: u8, b1: u8, b2: u8, b3: u8) -> u32
     ensures { result ≡ value_from enables b0 b1 b2 b3 }
 {
@@ -37,7 +37,7 @@ fn value(enables: u8, b0: u8, b1: u8, b2: u8, b3: u8) -> u32
     part_0 + part_1 + part_2 + part_3
 }
 
-/// The enabled bytes of the group at `addr`, the lowest place lowest, with zeros in the others. Past the end each byte
+/// The enabled bytes of the aligned group at `addr`, the lowest place lowest, with zeros in the others. Past the end each byte
 /// is `beyond`. Bits 4 to 7 of `enables` say nothing.
 pub(crate) fn read(bytes: &[u8], beyond: u8, addr: u32, enables: u8) -> u32
     ensures value { result ≡ group_of (λ a. slice_index_or bytes.now a beyond) addr enables }
@@ -61,7 +61,7 @@ fn put(bytes: &mut [u8], enabled: bool, place: usize, byte: u8)
     }
 }
 
-/// Puts the enabled bytes of a value at the places of the group at `addr`, the lowest byte first. What lies past the
+/// Puts the enabled bytes of a value at the places of the aligned group at `addr`, the lowest byte first. What lies past the
 /// end is lost. Bits 4 to 7 of `enables` say nothing.
 pub(crate) fn write(bytes: &mut [u8], addr: u32, enables: u8, value: u32)
     ensures { bytes.new ≡ with_bytes bytes.old (group_bytes addr enables value) }

@@ -68,7 +68,7 @@ impl Store {
         self.memory[at..at + bytes.len()].copy_from_slice(bytes);
     }
 
-    /// The enabled bytes of the group at `addr`, with zeros in the others. Each byte past the end of memory reads as FF.
+    /// The enabled bytes of the aligned group at `addr`, with zeros in the others. Each byte past the end of memory reads as FF.
     pub fn read(&self, space: Space, addr: u32, enables: u8) -> u32
         ensures value { result ≡ group_in self.now space addr enables }
         ensures enabled { IsEnabled enables result }
@@ -80,7 +80,7 @@ impl Store {
         }
     }
 
-    /// Writes the enabled bytes of the group at `addr`. What lies past the end of memory is lost.
+    /// Writes the enabled bytes of the aligned group at `addr`. What lies past the end of memory is lost.
     pub fn write(&mut self, space: Space, addr: u32, enables: u8, value: u32)
         ensures { self.new ≡ with_written self.old space (group_bytes addr enables value) }
     {

@@ -1,4 +1,4 @@
--- Phrases that fetch no group twice, and the cycles that are made of them.
+-- Phrases that fetch no aligned group twice, and the cycles that are made of them.
 use Rattle.std.proofs.Common.{◌≡◌, ℕ, ◌++◌, List, [], ◌∷◌, refl, ◌∙◌, subst, cond, Bool, true, false, ne_eqb}
 use Rattle.std.specs.List.{Contains, IsDistinct, AllByRecursion}
 use Rattle.std.proofs.lemmas.Bool.{and_parts, eqb-true}
@@ -38,7 +38,7 @@ FetchesNone (Faults f) = Unit {0}
 FetchesNone (Begins m t) = FetchesNone t
 FetchesNone (Asks q k) = (is_fetch q ≡ false) × ((v : ℕ) → FetchesNone (k v))
 
--- so it fetches no group again
+-- so it fetches no aligned group again
 pub none_once : {A : Type 0} (groups : List ℕ) (t : Phrase A) → FetchesNone t → Once AnyGroups groups t
 none_once groups (Done a) h = tt
 none_once groups (Faults f) h = tt
@@ -46,19 +46,6 @@ none_once groups (Begins m t) h = none_once groups t h
 none_once groups (Asks q k) h = λ t m.
     let e : is_fetch t ≡ false = matches-fetch q t m ∙ h.0 in
     (λ f. cc, rw e (none_once groups (k (answer_of t)) (h.1 (answer_of t))))
-
--- two of them, one after the other
-pub none_then : {A B : Type 0} (t : Phrase A) (f : A → Phrase B) → FetchesNone t → ((a : A) → FetchesNone (f a)) → FetchesNone (t >>= f)
-unfolding ◌>>=◌
-none_then (Done a) f h k = k a
-none_then (Faults x) f h k = tt
-none_then (Begins m t) f h k = none_then t f h k
-none_then (Asks q c) f h k = (h.0, λ v. none_then (c v) f (h.1 v) k)
-
--- either branch of a choice
-pub none_if : {A : Type 0} (b : Bool) (t u : Phrase A) → FetchesNone t → FetchesNone u → FetchesNone (cond b t u)
-none_if true t u h k = h
-none_if false t u h k = k
 
 -- a phrase, and what follows from its end and from its fault
 pub once_either : {A B : Type 0} (P : List ℕ → A → Type 0) (groups : List ℕ) (t : Phrase A) (f : A → Phrase B) (g : Fault → Phrase B) → Once P groups t → ((a : A) → FetchesNone (f a)) → ((x : Fault) → FetchesNone (g x)) → Once AnyGroups groups (either t f g)
@@ -73,7 +60,7 @@ abbrev AreAnew : List ℕ → List Ask → Type 0
 AreAnew groups [] = Unit {0}
 AreAnew groups (t ∷ ts) = IsAnew groups t × AreAnew (with_fetched groups t) ts
 
--- an ask fetches no group that a cycle made of it doesn't fetch
+-- an ask fetches no aligned group that a cycle made of it doesn't fetch
 anew_of : (groups : List ℕ) (q t : Ask) → matches q t ≡ true → IsAnew groups t → IsAnew groups q
 anew_of groups q t m h = λ f c. h (matches-fetch q t m ∙ f) (subst (Contains groups) (matches-addr q t m) c)
 

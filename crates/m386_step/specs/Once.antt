@@ -1,4 +1,4 @@
--- That no group is fetched twice, said of a phrase, whatever is answered, and of cycles.
+-- That no aligned group is fetched twice, said of a phrase, whatever is answered, and of cycles.
 use Rattle.std.specs.Prelude.{◌≡◌, ℕ, ◌==◌, eqb, Bool, true, List, ◌∷◌, map, if◌then◌else◌}
 use Rattle.std.specs.List.{Contains, IsDistinct, filter}
 use Rattle.m386_base.specs.declared.ask.Ask.{Ask}

@@ -22,9 +22,9 @@ pub fn step_is_short()
     ensures cycles { (p after : ProcRecord) (ts : List AskRecord) → Follow p ts ≡ Whole after [] → length ts ≤ 192 }
 {}
 
-/// No group is fetched twice in a step, whatever is answered: not in a whole step, and not in a proper front of one with the
+/// No aligned group is fetched twice in a step, whatever is answered: not in a whole step, and not in a proper front of one with the
 /// ask that it wants next.
-pub fn no_group_is_fetched_twice()
+pub fn no_aligned_group_is_fetched_twice()
     ensures asks { (p : ProcRecord) → FetchesOnce [] (step_phrase p) }
     ensures whole { (p after : ProcRecord) (ts : List AskRecord) → Follow p ts ≡ Whole after [] → FetchesDiffer ts }
     ensures wants { (p : ProcRecord) (wanted : AskRecord) (ts : List AskRecord) → Follow p ts ≡ Wants wanted → FetchesDiffer (ts ++ wanted ∷ []) }

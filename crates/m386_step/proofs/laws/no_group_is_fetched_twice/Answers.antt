@@ -1,7 +1,7 @@
 use Rattle.m386_step.specs.Step.{step_phrase}
 use Rattle.m386_step.proofs.Anew.{differ_whole, differ_wants}
 use Rattle.m386_step.proofs.Once.{once_step}
-use Rattle.m386_step.proofs.laws.no_group_is_fetched_twice.Goals as goal
+use Rattle.m386_step.proofs.laws.no_aligned_group_is_fetched_twice.Goals as goal
 
 pub returns-clause-asks : goal.returns-clause-asks
 returns-clause-asks c = once_step
