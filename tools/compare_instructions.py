@@ -9,9 +9,9 @@ is written behind the case, and m386_cases, which this script proves and builds,
 flags, EIP, the exception and memory. Flags that the manual leaves undefined are left out, for each operation as undefined_flags
 names them. Printed is how many cases of each name differ, with the first few of them; the exit status is 1 if there is one.
 
-The stored cases are EACH (8) of each form, and one of each ModRM and SIB byte that names memory. They set only what the
-instruction names, and leave the rest as m386_cases begins. Some are wrong on purpose, under the name WRONG: the program has to
-find each.
+The stored cases are EACH (8) of each form, one of each with LOCK, which most refuse, and one of each ModRM and SIB byte that names
+memory. They set only what the instruction names, and leave the rest as m386_cases begins. Some are wrong on purpose, under the name
+WRONG: the program has to find each.
 """
 import os
 import random
@@ -21,7 +21,7 @@ import sys
 import tempfile
 import time
 
-from instruction_cases import AREA, AREA_SIZE, CODE, COMPARED, FIRST_AREA, FIRST_REGISTERS, FORMS, NAMES, PLAIN, SCALED, case_of
+from instruction_cases import AREA, AREA_SIZE, CODE, COMPARED, FIRST_AREA, FIRST_REGISTERS, FORMS, NAMES, PLAIN, SCALED, case_of, takes_lock_alike
 
 HERE = os.path.dirname(os.path.abspath(__file__))
 CRATE = f"{HERE}/../crates/m386_cases"
@@ -155,6 +155,7 @@ def stored(each, seed):
     cases = [case_of(dice, form, False) for form in FORMS for _ in range(each)]
     reaching = [form for form in FORMS if form.place == "memory"]
     cases += [case_of(dice, dice.choice(reaching), False, shape) for shape in PLAIN + SCALED]
+    cases += [case_of(dice, form, False, locked=True) for form in FORMS if takes_lock_alike(form)]
     with tempfile.TemporaryDirectory() as folder:
         found = answers(built_processor(folder), cases)
     return [*map(line, cases, found), *wrong_lines(cases, found)]

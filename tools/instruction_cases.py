@@ -276,10 +276,15 @@ def address(dice, case, target, shape, kept=()):
     return bytes([shape.modrm]) + shape.sib + tail
 
 
-def prefixes(dice, form, memory):
-    """Prefixes in any order: the width's, at times LOCK, a segment, a repeat that does nothing, and some of them twice."""
+def takes_lock_alike(form):
+    """Whether a later processor takes or refuses LOCK before a form as the 80386 does."""
+    return form.name != "BT" or form.place != "memory"
+
+
+def prefixes(dice, form, memory, locked):
+    """Prefixes in any order: the width's, LOCK or at times so, a segment, a repeat that does nothing, and some of them twice."""
     found = [0x66] if form.width == 16 else []
-    is_locked = dice.random() < (0.2 if form.lock else 0.01) and not (form.name == "BT" and form.place == "memory")
+    is_locked = locked or dice.random() < (0.2 if form.lock else 0.01) and takes_lock_alike(form)
     if is_locked:
         found.append(0xF0)
     if memory and dice.random() < 0.25:
@@ -427,7 +432,7 @@ def scattered(dice, case):
         case.registers[dice.getrandbits(3)] = case.registers[dice.getrandbits(3)]
 
 
-def drawn(dice, form, everywhere, shape):
+def drawn(dice, form, everywhere, shape, locked):
     """A random case of a form."""
     case = Case(form)
     if everywhere:
@@ -438,17 +443,20 @@ def drawn(dice, form, everywhere, shape):
     immediate = counted(dice) if is_count else number(dice, 8 * form.immediate) if form.immediate else 0
     memory = form.place in ("memory", "offset") or form.kind == "table"
     opcode = form.opcode[:-1] + bytes([form.opcode[-1] + low])
-    case.code = prefixes(dice, form, memory) + opcode + tail + immediate.to_bytes(form.immediate, "little")
+    case.code = prefixes(dice, form, memory, locked) + opcode + tail + immediate.to_bytes(form.immediate, "little")
     if form.name in ("SHLD", "SHRD") and form.width == 16 and count_of(case, immediate) > 16:
         raise Rejected
     case.undefined = undefined_flags(case, immediate)
     return case
 
 
-def case_of(dice, form, everywhere, shape=None):
-    """A random case of a form, and of a shape of its memory operand; `everywhere` sets what the instruction doesn't name too."""
+def case_of(dice, form, everywhere, shape=None, locked=False):
+    """A random case of a form, of a shape of its memory operand and with LOCK where these are given.
+
+    `everywhere` sets also what the instruction doesn't name.
+    """
     while True:
         try:
-            return drawn(dice, form, everywhere, shape or dice.choice(SCALED if dice.random() < 0.4 else PLAIN))
+            return drawn(dice, form, everywhere, shape or dice.choice(SCALED if dice.random() < 0.4 else PLAIN), locked)
         except Rejected:
             continue
