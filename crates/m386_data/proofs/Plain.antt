@@ -38,12 +38,20 @@ use Rattle.m386_data.specs.Alone.{done_alone, half, with_low_flags}
 use Rattle.m386_data.specs.BitStrings.{bit_test_phrase, bit_of_phrase, bit_string_phrase, register_bit_phrase, memory_bit_phrase, inspect_bit_phrase, unit_offset}
 use Rattle.m386_data.specs.Bound.{bound_phrase, bounds_phrase, check_bounds_phrase}
 use Rattle.m386_data.specs.Change.{changed, low_of}
-use Rattle.m386_data.specs.Compare.{compare_phrase, scan_phrase, scanned}
+use Rattle.m386_data.specs.Compare.{comparison_phrase, compare_phrase, scan_phrase, scanned}
 use Rattle.m386_data.specs.Exec.{work_phrase, named_phrase, exec_phrase}
-use Rattle.m386_data.specs.Moves.{extended_of, move_phrase, extend_phrase, address_phrase, swap_phrase, exchange_with_phrase, exchange_phrase, table_byte_phrase, translate_phrase, set_phrase}
-use Rattle.m386_data.specs.Products.{multiply_accumulator_phrase, multiply_two_phrase, multiply_phrase, divide_phrase, divided_phrase, with_halves, multiplied, with_product, upper_register}
-use Rattle.m386_data.specs.Update.{change_memory_phrase, change_phrase, arithmetic_phrase, single_phrase, shift_phrase, double_shift_phrase}
+use Rattle.m386_data.specs.Moves.{moves_phrase, extended_of, move_phrase, extend_phrase, address_phrase, swap_phrase, exchange_with_phrase, exchange_phrase, table_byte_phrase, translate_phrase, set_phrase}
+use Rattle.m386_data.specs.Products.{products_phrase, multiply_accumulator_phrase, multiply_two_phrase, multiply_phrase, divide_phrase, divided_phrase, with_halves, multiplied, with_product, upper_register}
+use Rattle.m386_data.specs.Update.{update_phrase, change_memory_phrase, change_phrase, arithmetic_phrase, single_phrase, shift_phrase, double_shift_phrase}
 use Rattle.m386_data.specs.Work.{work_of}
+use Rattle.m386_data.specs.declared.compare.Comparison.{Comparison}
+use Rattle.m386_data.specs.declared.compare.Comparison.TheVariants as comparisons
+use Rattle.m386_data.specs.declared.moves.Moves.{Moves}
+use Rattle.m386_data.specs.declared.moves.Moves.TheVariants as moves_group
+use Rattle.m386_data.specs.declared.products.Products.{Products}
+use Rattle.m386_data.specs.declared.products.Products.TheVariants as products_group
+use Rattle.m386_data.specs.declared.update.Update.{Update}
+use Rattle.m386_data.specs.declared.update.Update.TheVariants as updates
 use Rattle.m386_data.specs.declared.alone.Alone.{Alone}
 use Rattle.m386_data.specs.declared.alone.Alone.TheVariants as alones
 use Rattle.m386_data.specs.declared.change.Change.{Change}
@@ -254,23 +262,36 @@ set_plain : (condition : Condition) (operands : Operands) (p : Proc) → PlainFr
 unfolding set_phrase
 set_plain condition operands p = search results
 
+update_plain : (update : Update) (m : Manner) (operands : Operands) (p : Proc) → PlainFrom 8 p (update_phrase update m operands p)
+update_plain (updates.Arithmetic op) m operands p = arithmetic_plain op m operands p
+update_plain (updates.Single change) m operands p = single_plain change m operands p
+update_plain (updates.Shift op) m operands p = shift_plain op m operands p
+update_plain (updates.DoubleShift left) m operands p = double_shift_plain left m operands p
+
+comparison_plain : (comparison : Comparison) (m : Manner) (operands : Operands) (p : Proc) → PlainFrom 8 p (comparison_phrase comparison m operands p)
+comparison_plain (comparisons.Flags op) m operands p = compare_plain op m operands p
+comparison_plain (comparisons.Search scan) m operands p = scan_plain scan m operands p
+comparison_plain comparisons.Bound m operands p = bound_plain m operands p
+
+products_plain : (products : Products) (m : Manner) (operands : Operands) (p : Proc) → PlainFrom 8 p (products_phrase products m operands p)
+products_plain (products_group.Multiply signed) m operands p = multiply_plain signed m operands p
+products_plain (products_group.Divide signed) m operands p = divide_plain signed m operands p
+
+moves_plain : (moves : Moves) (m : Manner) (operands : Operands) (p : Proc) → PlainFrom 8 p (moves_phrase moves m operands p)
+moves_plain moves_group.Move m operands p = move_plain m operands p
+moves_plain (moves_group.Extend signed from) m operands p = extend_plain signed from m operands p
+moves_plain moves_group.Exchange m operands p = exchange_plain m operands p
+moves_plain moves_group.Address m operands p = address_plain m operands p
+moves_plain moves_group.Translate m operands p = translate_plain operands p
+moves_plain (moves_group.Set condition) m operands p = set_plain condition operands p
+
+-- each group, one line
 work_plain : (work : Work) (m : Manner) (operands : Operands) (p : Proc) → PlainFrom 8 p (work_phrase work m operands p)
-work_plain (works.Arithmetic op) m operands p = arithmetic_plain op m operands p
-work_plain (works.Compare op) m operands p = compare_plain op m operands p
-work_plain (works.Single change) m operands p = single_plain change m operands p
-work_plain (works.Multiply signed) m operands p = multiply_plain signed m operands p
-work_plain (works.Divide signed) m operands p = divide_plain signed m operands p
-work_plain (works.Shift op) m operands p = shift_plain op m operands p
-work_plain (works.DoubleShift left) m operands p = double_shift_plain left m operands p
+work_plain (works.Update update) m operands p = update_plain update m operands p
+work_plain (works.Comparison comparison) m operands p = comparison_plain comparison m operands p
+work_plain (works.Products products) m operands p = products_plain products m operands p
 work_plain (works.BitTest op) m operands p = bit_test_plain op m operands p
-work_plain (works.Search scan) m operands p = scan_plain scan m operands p
-work_plain works.Move m operands p = move_plain m operands p
-work_plain (works.Extend signed from) m operands p = extend_plain signed from m operands p
-work_plain works.Exchange m operands p = exchange_plain m operands p
-work_plain works.Address m operands p = address_plain m operands p
-work_plain works.Translate m operands p = translate_plain operands p
-work_plain works.Bound m operands p = bound_plain m operands p
-work_plain (works.Set condition) m operands p = set_plain condition operands p
+work_plain (works.Moves moves) m operands p = moves_plain moves m operands p
 work_plain (works.Alone alone) m operands p = plain_done 8 (Ordinary p.gdtr) (Keeps p) [] _ (keeps_stays p [] _ (stays_alone alone m.width p))
 
 named_plain : (work : Option Work) (m : Manner) (operands : Operands) (p : Proc) → PlainFrom 8 p (named_phrase work m operands p)

@@ -1,5 +1,5 @@
 -- Operations without operands, on flags and the accumulator.
-use Rattle.std.specs.Prelude.{ℕ, ◌%◌, ◌^◌, not, true, false}
+use Rattle.std.specs.Prelude.{ℕ, ◌%◌, ◌^◌, not, true, false, Option, Some, None}
 use Rattle.m386_base.specs.declared.flags.Flag.{Flag}
 use Rattle.m386_base.specs.declared.flags.Flag.TheVariants.{Carry, Parity, Adjust, Zero, Sign, Direction}
 use Rattle.m386_base.specs.declared.number.Flags.{Flags}
@@ -11,10 +11,27 @@ use Rattle.m386_alu.specs.Products.{extension}
 use Rattle.m386_alu.specs.Width.{bits}
 use Rattle.m386_access.specs.After.{register_at, with_flags, with_register_at}
 use Rattle.m386_access.specs.Registers.{eax, edx, ah}
+use Rattle.m386_opmap.specs.declared.name.Name.{Name}
+use Rattle.m386_opmap.specs.declared.name.Name.TheVariants as names
 use Rattle.m386_data.specs.Change.{low_of}
 use Rattle.m386_data.specs.Moves.{extended_of}
 use Rattle.m386_data.specs.declared.alone.Alone.{Alone}
 use Rattle.m386_data.specs.declared.alone.Alone.TheVariants.{Nothing, ClearCarry, SetCarry, TurnCarry, ClearDirection, SetDirection, StoreFlags, LoadFlags, Widen, SpreadSign}
+
+-- What the operation of a name does, where it is one of this group.
+-- Source: Intel 80386 PRM 17.2.2.11, CBW/CWDE, CLC, CLD, CMC, CWD/CDQ, LAHF, NOP, SAHF, STC, STD
+abbrev pub alone_of : Name → Option Alone
+alone_of names.Nop = Some Nothing
+alone_of names.Clc = Some ClearCarry
+alone_of names.Stc = Some SetCarry
+alone_of names.Cmc = Some TurnCarry
+alone_of names.Cld = Some ClearDirection
+alone_of names.Std = Some SetDirection
+alone_of names.Sahf = Some StoreFlags
+alone_of names.Lahf = Some LoadFlags
+alone_of names.Cwde = Some Widen
+alone_of names.Cdq = Some SpreadSign
+alone_of _ = None
 
 -- a flag as a byte has it at the flag's place
 abbrev pub taken : Flag → ℕ → Flags → Flags

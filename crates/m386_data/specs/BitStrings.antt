@@ -1,5 +1,5 @@
 -- Tests of bits in registers and in memory.
-use Rattle.std.specs.Prelude.{ℕ, ◌+◌, ◌-◌, ◌*◌, ◌/◌, ◌%◌, ◌^◌, if◌then◌else◌}
+use Rattle.std.specs.Prelude.{ℕ, ◌+◌, ◌-◌, ◌*◌, ◌/◌, ◌%◌, ◌^◌, if◌then◌else◌, Option, Some, None}
 use Rattle.m386_base.specs.declared.number.Width.{Width}
 use Rattle.m386_base.specs.Exceptions.{undefined_opcode_of}
 use Rattle.m386_base.specs.Phrase.{Phrase, Done, Faults, ◌>>=◌}
@@ -16,9 +16,20 @@ use Rattle.m386_access.specs.declared.operands.Manner.{Manner}
 use Rattle.m386_access.specs.declared.operands.Operand.{Operand}
 use Rattle.m386_access.specs.declared.operands.Operand.TheVariants.{Register, Number, Memory, Other}
 use Rattle.m386_access.specs.declared.operands.Operands.{Operands}
+use Rattle.m386_opmap.specs.declared.name.Name.{Name}
+use Rattle.m386_opmap.specs.declared.name.Name.TheVariants as names
 use Rattle.m386_data.specs.Change.{changed}
 use Rattle.m386_data.specs.Update.{change_memory_phrase, change_phrase}
 use Rattle.m386_data.specs.declared.change.Change.TheVariants.{Bit}
+
+-- What the operation of a name does, where it is one of this group.
+-- Source: Intel 80386 PRM 17.2.2.11, BT, BTC, BTR, BTS
+abbrev pub bit_op_of : Name → Option BitOp
+bit_op_of names.Bt = Some Test
+bit_op_of names.Bts = Some Set
+bit_op_of names.Btr = Some Reset
+bit_op_of names.Btc = Some Complement
+bit_op_of _ = None
 
 -- The offset of the unit of a width that holds bit k of a bit string, where k is read with a sign: as many units on from the
 -- string's offset as k has whole widths, rounded down.

@@ -1,5 +1,5 @@
 -- Operations that read operands for their flags, or look for a bit.
-use Rattle.std.specs.Prelude.{ℕ, ◌-◌, ◌==◌, true, false, if◌then◌else◌}
+use Rattle.std.specs.Prelude.{ℕ, ◌-◌, ◌==◌, true, false, if◌then◌else◌, Option, Some, None}
 use Rattle.std.specs.Int.Count.{count_leading_zeros, count_trailing_zeros}
 use Rattle.m386_base.specs.declared.flags.Flag.TheVariants.{Zero}
 use Rattle.m386_base.specs.declared.number.Width.{Width}
@@ -11,10 +11,27 @@ use Rattle.m386_access.specs.After.{with_flags, with_register_at}
 use Rattle.m386_access.specs.Operands.{value_phrase, on_two, on_register}
 use Rattle.m386_access.specs.declared.operands.Manner.{Manner}
 use Rattle.m386_access.specs.declared.operands.Operands.{Operands}
+use Rattle.m386_alu.specs.declared.arithmetic.AluOp.TheVariants as ops
+use Rattle.m386_opmap.specs.declared.name.Name.{Name}
+use Rattle.m386_opmap.specs.declared.name.Name.TheVariants as names
+use Rattle.m386_data.specs.Bound.{bound_phrase}
+use Rattle.m386_data.specs.declared.compare.Comparison.{Comparison}
+use Rattle.m386_data.specs.declared.compare.Comparison.TheVariants as comparisons
+use Rattle.m386_data.specs.declared.compare.Scan.TheVariants as scans
 use Rattle.m386_data.specs.Change.{changed, low_of}
 use Rattle.m386_data.specs.declared.change.Change.TheVariants.{Arithmetic}
 use Rattle.m386_data.specs.declared.compare.Scan.{Scan}
 use Rattle.m386_data.specs.declared.compare.Scan.TheVariants.{Forward, Reverse}
+
+-- What the operation of a name does, where it is one of this group.
+-- Source: Intel 80386 PRM 17.2.2.11, BOUND, BSF, BSR, CMP, TEST
+abbrev pub comparison_of : Name → Option Comparison
+comparison_of names.Cmp = Some (comparisons.Flags ops.Cmp)
+comparison_of names.Test = Some (comparisons.Flags ops.And)
+comparison_of names.Bsf = Some (comparisons.Search scans.Forward)
+comparison_of names.Bsr = Some (comparisons.Search scans.Reverse)
+comparison_of names.Bound = Some comparisons.Bound
+comparison_of _ = None
 
 -- CMP or TEST: the flags of arithmetic whose result isn't stored.
 -- Source: Intel 80386 PRM 17.2.2.11, CMP, TEST
@@ -40,3 +57,9 @@ scanned scan w p register n =
 unfoldable pub scan_phrase : Scan → Manner → Operands → Proc → Phrase Proc
 scan_phrase scan m operands p =
     on_two operands (λ first second. on_register first (λ register. value_phrase m.width p second >>= (λ n. Done (scanned scan m.width p register (low_of m.width n)))))
+
+-- an operation of this group
+abbrev pub comparison_phrase : Comparison → Manner → Operands → Proc → Phrase Proc
+comparison_phrase (comparisons.Flags op) m operands p = compare_phrase op m operands p
+comparison_phrase (comparisons.Search scan) m operands p = scan_phrase scan m operands p
+comparison_phrase comparisons.Bound m operands p = bound_phrase m operands p

@@ -1,5 +1,5 @@
 -- Products and quotients.
-use Rattle.std.specs.Prelude.{ℕ, Bool, Option, Some, None}
+use Rattle.std.specs.Prelude.{ℕ, Bool, true, false, Option, Some, None}
 use Rattle.m386_base.specs.declared.exception.Exception.TheVariants.{DivideError}
 use Rattle.m386_base.specs.declared.number.Width.{Width}
 use Rattle.m386_base.specs.declared.number.Width.TheVariants.{W8, W16, W32}
@@ -16,7 +16,20 @@ use Rattle.m386_access.specs.declared.operands.Operand.{Operand}
 use Rattle.m386_access.specs.declared.operands.Operand.TheVariants.{Register}
 use Rattle.m386_access.specs.declared.operands.Operands.{Operands}
 use Rattle.m386_access.specs.declared.operands.Operands.TheVariants.{Absent, One, Two, Three, Others}
+use Rattle.m386_opmap.specs.declared.name.Name.{Name}
+use Rattle.m386_opmap.specs.declared.name.Name.TheVariants as names
+use Rattle.m386_data.specs.declared.products.Products.{Products}
+use Rattle.m386_data.specs.declared.products.Products.TheVariants as products
 use Rattle.m386_data.specs.Change.{low_of}
+
+-- What the operation of a name does, where it is one of this group.
+-- Source: Intel 80386 PRM 17.2.2.11, DIV, IDIV, IMUL, MUL
+abbrev pub products_of : Name → Option Products
+products_of names.Mul = Some (products.Multiply false)
+products_of names.Imul = Some (products.Multiply true)
+products_of names.Div = Some (products.Divide false)
+products_of names.Idiv = Some (products.Divide true)
+products_of _ = None
 
 -- The register of the upper half of a product or dividend: AH, DX or EDX. That of the lower half is AL, AX or EAX.
 -- Source: Intel 80386 PRM 3.2.3, 3.2.4
@@ -77,3 +90,8 @@ divided_phrase w p None = Faults (fault_of DivideError)
 -- Source: Intel 80386 PRM 17.2.2.11, DIV, IDIV
 unfoldable pub divide_phrase : Bool → Manner → Operands → Proc → Phrase Proc
 divide_phrase signed m operands p = on_one operands (λ first. value_phrase m.width p first >>= (λ by. divided_phrase m.width p (quotient_by signed m.width p by)))
+
+-- an operation of this group
+abbrev pub products_phrase : Products → Manner → Operands → Proc → Phrase Proc
+products_phrase (products.Multiply signed) m operands p = multiply_phrase signed m operands p
+products_phrase (products.Divide signed) m operands p = divide_phrase signed m operands p

@@ -1,5 +1,5 @@
 -- Operations that change one operand, which is read and written.
-use Rattle.std.specs.Prelude.{ℕ, Bool}
+use Rattle.std.specs.Prelude.{ℕ, Bool, true, false, Option, Some, None}
 use Rattle.m386_base.specs.declared.number.Flags.{Flags}
 use Rattle.m386_base.specs.declared.number.Width.{Width}
 use Rattle.m386_base.specs.declared.number.Width.TheVariants.{W8}
@@ -16,9 +16,41 @@ use Rattle.m386_access.specs.declared.operands.Manner.{Manner}
 use Rattle.m386_access.specs.declared.operands.Operand.{Operand}
 use Rattle.m386_access.specs.declared.operands.Operand.TheVariants.{Register, Number, Memory, Other}
 use Rattle.m386_access.specs.declared.operands.Operands.{Operands}
+use Rattle.m386_alu.specs.declared.arithmetic.AluOp.TheVariants as ops
+use Rattle.m386_alu.specs.declared.shifts.ShiftOp.TheVariants as shifts
+use Rattle.m386_opmap.specs.declared.name.Name.{Name}
+use Rattle.m386_opmap.specs.declared.name.Name.TheVariants as names
+use Rattle.m386_data.specs.declared.change.Change.TheVariants as changes
+use Rattle.m386_data.specs.declared.update.Update.{Update}
+use Rattle.m386_data.specs.declared.update.Update.TheVariants as updates
 use Rattle.m386_data.specs.Change.{changed}
 use Rattle.m386_data.specs.declared.change.Change.{Change}
 use Rattle.m386_data.specs.declared.change.Change.TheVariants.{Arithmetic, Shift, DoubleShift}
+
+-- What the operation of a name does, where it is one of this group.
+-- Source: Intel 80386 PRM 17.2.2.11, ADC, ADD, AND, DEC, INC, NEG, NOT, OR, RCL/RCR/ROL/ROR, SAL/SAR/SHL/SHR, SBB, SHLD, SHRD, SUB, XOR
+abbrev pub update_of : Name → Option Update
+update_of names.Add = Some (updates.Arithmetic ops.Add)
+update_of names.Or = Some (updates.Arithmetic ops.Or)
+update_of names.Adc = Some (updates.Arithmetic ops.Adc)
+update_of names.Sbb = Some (updates.Arithmetic ops.Sbb)
+update_of names.And = Some (updates.Arithmetic ops.And)
+update_of names.Sub = Some (updates.Arithmetic ops.Sub)
+update_of names.Xor = Some (updates.Arithmetic ops.Xor)
+update_of names.Inc = Some (updates.Single changes.Increment)
+update_of names.Dec = Some (updates.Single changes.Decrement)
+update_of names.Not = Some (updates.Single changes.Invert)
+update_of names.Neg = Some (updates.Single changes.Negate)
+update_of names.Rol = Some (updates.Shift shifts.Rol)
+update_of names.Ror = Some (updates.Shift shifts.Ror)
+update_of names.Rcl = Some (updates.Shift shifts.Rcl)
+update_of names.Rcr = Some (updates.Shift shifts.Rcr)
+update_of names.Shl = Some (updates.Shift shifts.Shl)
+update_of names.Shr = Some (updates.Shift shifts.Shr)
+update_of names.Sar = Some (updates.Shift shifts.Sar)
+update_of names.Shld = Some (updates.DoubleShift true)
+update_of names.Shrd = Some (updates.DoubleShift false)
+update_of _ = None
 
 -- memory changed, and the flags after it
 unfoldable pub change_memory_phrase : Change → Manner → Proc → ℕ → ℕ → Phrase Proc
@@ -60,3 +92,10 @@ shift_phrase op m operands p =
 unfoldable pub double_shift_phrase : Bool → Manner → Operands → Proc → Phrase Proc
 double_shift_phrase left m operands p =
     on_three operands (λ first second count. value_phrase m.width p second >>= (λ b. value_phrase W8 p count >>= (λ n. change_phrase (DoubleShift left b n) m p first)))
+
+-- an operation of this group
+abbrev pub update_phrase : Update → Manner → Operands → Proc → Phrase Proc
+update_phrase (updates.Arithmetic op) m operands p = arithmetic_phrase op m operands p
+update_phrase (updates.Single change) m operands p = single_phrase change m operands p
+update_phrase (updates.Shift op) m operands p = shift_phrase op m operands p
+update_phrase (updates.DoubleShift left) m operands p = double_shift_phrase left m operands p

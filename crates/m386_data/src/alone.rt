@@ -1,6 +1,6 @@
 //! Operations without operands, on flags and the accumulator.
 ghost use Rattle.std.specs.Prelude.{◌≡◌};
-ghost use Rattle.m386_data.specs.Alone.{with_low_flags, half, done_alone};
+ghost use Rattle.m386_data.specs.Alone.{alone_of, with_low_flags, half, done_alone};
 ghost use Rattle.m386_data.specs.declared.alone.Alone.TheVariants.{Widen, SpreadSign};
 
 use crate::change::low;
@@ -10,6 +10,7 @@ use m386_access::registers::{AH, EAX, EDX};
 use m386_alu::width::{has_sign, max_of};
 use m386_base::flags::{Flag, has_bit, has_flag, put_flag};
 use m386_base::number::{Flags, Width};
+use m386_opmap::name::Name;
 use m386_state::proc::Proc;
 
 /// An operation without operands.
@@ -35,6 +36,25 @@ pub enum Alone {
     Widen,
     /// CDQ, and CWD with 16 bits: the accumulator's sign into each bit of the data register.
     SpreadSign,
+}
+
+/// What the operation of a name does, where it is one of this group.
+pub fn alone_of(name: Name) -> Option<Alone>
+    ensures { result ≡ alone_of name }
+{
+    Some(match name {
+        Name::Nop => Alone::Nothing,
+        Name::Clc => Alone::ClearCarry,
+        Name::Stc => Alone::SetCarry,
+        Name::Cmc => Alone::TurnCarry,
+        Name::Cld => Alone::ClearDirection,
+        Name::Std => Alone::SetDirection,
+        Name::Sahf => Alone::StoreFlags,
+        Name::Lahf => Alone::LoadFlags,
+        Name::Cwde => Alone::Widen,
+        Name::Cdq => Alone::SpreadSign,
+        _ => return None,
+    })
 }
 
 /// CF, PF, AF, ZF and SF as a byte has them.

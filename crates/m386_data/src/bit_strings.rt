@@ -2,7 +2,7 @@
 ghost use Rattle.std.specs.Prelude.{◌≡◌, ◌<◌, ◌^◌, false};
 ghost use Rattle.m386_alu.specs.Width.{bits};
 ghost use Rattle.m386_base.specs.Phrase.{Performs, it};
-ghost use Rattle.m386_data.specs.BitStrings.{unit_offset, inspect_bit_phrase, memory_bit_phrase, register_bit_phrase, bit_string_phrase, bit_of_phrase, bit_test_phrase};
+ghost use Rattle.m386_data.specs.BitStrings.{bit_op_of, unit_offset, inspect_bit_phrase, memory_bit_phrase, register_bit_phrase, bit_string_phrase, bit_of_phrase, bit_test_phrase};
 
 use crate::change::{Change, apply};
 use crate::update::{change_memory, change_operand};
@@ -16,8 +16,22 @@ use m386_base::bus::Bus;
 use m386_base::exception::undefined_opcode;
 use m386_base::fault::Break;
 use m386_base::number::Width;
+use m386_opmap::name::Name;
 use m386_opmap::op::Addr;
 use m386_state::proc::Proc;
+
+/// What the operation of a name does, where it is one of this group.
+pub fn bit_op_of(name: Name) -> Option<BitOp>
+    ensures { result ≡ bit_op_of name }
+{
+    Some(match name {
+        Name::Bt => BitOp::Test,
+        Name::Bts => BitOp::Set,
+        Name::Btr => BitOp::Reset,
+        Name::Btc => BitOp::Complement,
+        _ => return None,
+    })
+}
 
 /// The offset of the unit of a width that holds bit k of a bit string, where k is read with a sign (PRM 3.4.2).
 fn unit_offset(width: Width, offset: u32, k: u32) -> u32

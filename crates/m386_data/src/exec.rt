@@ -1,15 +1,14 @@
-//! The operations of this crate, by kinds of work.
+//! The operations of this crate, by groups.
 ghost use Rattle.std.specs.Prelude.{◌≡◌, false, OnErr};
 ghost use Rattle.m386_base.specs.Phrase.{Performs, it};
 ghost use Rattle.m386_data.specs.Exec.{takes, work_phrase, exec_phrase};
 
 use crate::alone::done_alone;
 use crate::bit_strings::bit_test;
-use crate::bound::bound;
-use crate::compare::{compare, scan_bits};
-use crate::moves::{exchange, extend, load_address, move_operand, set, translate};
-use crate::products::{divide, multiply};
-use crate::update::{arithmetic, double_shift_operand, shift_operand, single};
+use crate::compare::perform_comparison;
+use crate::moves::perform_moves;
+use crate::products::perform_products;
+use crate::update::perform_update;
 use crate::work::{Work, work_of};
 use m386_access::operands::{Manner, Operands, are_general, manner_of, operands_of};
 use m386_base::bus::Bus;
@@ -26,7 +25,7 @@ pub fn takes(op: &Op) -> bool
     work_of(op.name).is_some() && are_general(operands_of(op))
 }
 
-/// One case for each kind of work.
+/// One case for each group.
 #[tactic(auto, using(m386_base::proofs::Phrases::calls))]
 fn perform<B: Bus>(
     work: Work,
@@ -40,22 +39,11 @@ fn perform<B: Bus>(
     ensures free { (B.view bus.new).kept ≡ false }
 {
     match work {
-        Work::Arithmetic(op) => arithmetic(op, manner, operands, p, bus),
-        Work::Compare(op) => compare(op, manner, operands, p, bus),
-        Work::Single(change) => single(change, manner, operands, p, bus),
-        Work::Multiply { signed } => multiply(signed, manner, operands, p, bus),
-        Work::Divide { signed } => divide(signed, manner, operands, p, bus),
-        Work::Shift(op) => shift_operand(op, manner, operands, p, bus),
-        Work::DoubleShift { left } => double_shift_operand(left, manner, operands, p, bus),
+        Work::Update(update) => perform_update(update, manner, operands, p, bus),
+        Work::Comparison(comparison) => perform_comparison(comparison, manner, operands, p, bus),
+        Work::Products(products) => perform_products(products, manner, operands, p, bus),
         Work::BitTest(op) => bit_test(op, manner, operands, p, bus),
-        Work::Search(scan) => scan_bits(scan, manner, operands, p, bus),
-        Work::Move => move_operand(manner, operands, p, bus),
-        Work::Extend { signed, from } => extend(signed, from, manner, operands, p, bus),
-        Work::Exchange => exchange(manner, operands, p, bus),
-        Work::Address => load_address(manner, operands, p, bus),
-        Work::Translate => translate(operands, p, bus),
-        Work::Bound => bound(manner, operands, p, bus),
-        Work::Set(condition) => set(condition, operands, p, bus),
+        Work::Moves(moves) => perform_moves(moves, manner, operands, p, bus),
         Work::Alone(alone) => Ok(done_alone(alone, manner.width, p)),
     }
 }

@@ -2,13 +2,13 @@
 ghost use Rattle.std.specs.Prelude.{◌≡◌, ◌<◌, ◌^◌, false};
 ghost use Rattle.m386_alu.specs.Width.{bits};
 ghost use Rattle.m386_base.specs.Phrase.{Performs, it};
-ghost use Rattle.m386_data.specs.Moves.{move_phrase, extended_of, extend_phrase, address_phrase, swap_phrase, swapped, exchange_with_phrase, exchange_phrase, table_byte_phrase, translate_phrase, set_phrase};
+ghost use Rattle.m386_data.specs.Moves.{moves_of, moves_phrase, move_phrase, extended_of, extend_phrase, address_phrase, swap_phrase, swapped, exchange_with_phrase, exchange_phrase, table_byte_phrase, translate_phrase, set_phrase};
 
 use crate::change::low;
 use m386_access::access::read;
 use m386_access::address::{address, offset};
 use m386_access::after::{len_of, register_at, with_register_at};
-use m386_access::conditions::{Condition, meets};
+use m386_access::conditions::{Condition, Relation, meets, unless, when};
 use m386_access::modify::modify;
 use m386_access::operands::{Manner, Operand, Operands, put, value};
 use m386_access::registers::EAX;
@@ -18,12 +18,80 @@ use m386_base::bus::Bus;
 use m386_base::exception::undefined_opcode;
 use m386_base::fault::Break;
 use m386_base::number::Width;
+use m386_opmap::name::Name;
 use m386_opmap::op::Addr;
 use m386_state::proc::Proc;
 
+/// What an operation of this group does.
+#[derive(Clone, Copy)]
+pub enum Moves {
+    /// The second operand goes to the first.
+    Move,
+    /// The second operand, of a width of its own, goes to the first.
+    Extend {
+        /// Whether copies of its sign stand above it.
+        signed: bool,
+        /// Its width.
+        from: Width,
+    },
+    /// The operands change places.
+    Exchange,
+    /// The offset of the second operand goes to the first.
+    Address,
+    /// A byte of a table goes to AL.
+    Translate,
+    /// A byte becomes 1 on a condition, and else 0.
+    Set(Condition),
+}
+
+/// What the operation of a name does, where it is one of this group.
+pub fn moves_of(name: Name) -> Option<Moves>
+    ensures { result ≡ moves_of name }
+{
+    Some(match name {
+        Name::Mov => Moves::Move,
+        Name::Movzx8 => Moves::Extend {
+            signed: false,
+            from: Width::W8,
+        },
+        Name::Movzx16 => Moves::Extend {
+            signed: false,
+            from: Width::W16,
+        },
+        Name::Movsx8 => Moves::Extend {
+            signed: true,
+            from: Width::W8,
+        },
+        Name::Movsx16 => Moves::Extend {
+            signed: true,
+            from: Width::W16,
+        },
+        Name::Xchg => Moves::Exchange,
+        Name::Lea => Moves::Address,
+        Name::Xlat => Moves::Translate,
+        Name::Seto => Moves::Set(when(Relation::Overflow)),
+        Name::Setno => Moves::Set(unless(Relation::Overflow)),
+        Name::Setb => Moves::Set(when(Relation::Below)),
+        Name::Setae => Moves::Set(unless(Relation::Below)),
+        Name::Sete => Moves::Set(when(Relation::Equal)),
+        Name::Setne => Moves::Set(unless(Relation::Equal)),
+        Name::Setbe => Moves::Set(when(Relation::BelowOrEqual)),
+        Name::Seta => Moves::Set(unless(Relation::BelowOrEqual)),
+        Name::Sets => Moves::Set(when(Relation::Sign)),
+        Name::Setns => Moves::Set(unless(Relation::Sign)),
+        Name::Setp => Moves::Set(when(Relation::Parity)),
+        Name::Setnp => Moves::Set(unless(Relation::Parity)),
+        Name::Setl => Moves::Set(when(Relation::Less)),
+        Name::Setge => Moves::Set(unless(Relation::Less)),
+        Name::Setle => Moves::Set(when(Relation::LessOrEqual)),
+        Name::Setg => Moves::Set(unless(Relation::LessOrEqual)),
+        _ => return None,
+    })
+}
+
 /// MOV.
 #[tactic(auto, using(m386_base::proofs::Phrases::calls), unfolding(crate::specs::Moves::move_phrase))]
-pub(crate) fn move_operand<B: Bus>(
+fn move_operand<B: Bus>(
     manner: Manner,
     operands: Operands,
     p: &Proc,
@@ -56,7 +124,7 @@ pub(crate) fn extended(signed: bool, from: Width, n: u32) -> u32
 
 /// MOVZX or MOVSX, from an operand of a width of its own.
 #[tactic(auto, using(m386_base::proofs::Phrases::calls), unfolding(crate::specs::Moves::extend_phrase))]
-pub(crate) fn extend<B: Bus>(
+fn extend<B: Bus>(
     signed: bool,
     from: Width,
     manner: Manner,
@@ -85,7 +153,7 @@ pub(crate) fn extend<B: Bus>(
 
 /// LEA.
 #[tactic(auto, using(m386_base::proofs::Phrases::calls), unfolding(crate::specs::Moves::address_phrase))]
-pub(crate) fn load_address<B: Bus>(
+fn load_address<B: Bus>(
     manner: Manner,
     operands: Operands,
     p: &Proc,
@@ -144,7 +212,7 @@ fn exchange_with<B: Bus>(
 
 /// XCHG. With memory it is one locked group, with LOCK and without it.
 #[tactic(auto, using(m386_base::proofs::Phrases::calls), unfolding(crate::specs::Moves::exchange_phrase))]
-pub(crate) fn exchange<B: Bus>(
+fn exchange<B: Bus>(
     manner: Manner,
     operands: Operands,
     p: &Proc,
@@ -181,7 +249,7 @@ fn table_byte<B: Bus>(p: &Proc, a: &Addr, bus: &mut B) -> Result<Proc, Break>
 
 /// XLAT.
 #[tactic(auto, using(m386_base::proofs::Phrases::calls), unfolding(crate::specs::Moves::translate_phrase))]
-pub(crate) fn translate<B: Bus>(operands: Operands, p: &Proc, bus: &mut B) -> Result<Proc, Break>
+fn translate<B: Bus>(operands: Operands, p: &Proc, bus: &mut B) -> Result<Proc, Break>
     requires free { (B.view bus.old).kept ≡ false }
     ensures cycles { Performs (translate_phrase operands p.now) (B.view bus.old) (B.view bus.new) it result }
     ensures free { (B.view bus.new).kept ≡ false }
@@ -194,7 +262,7 @@ pub(crate) fn translate<B: Bus>(operands: Operands, p: &Proc, bus: &mut B) -> Re
 
 /// SETcc.
 #[tactic(auto, using(m386_base::proofs::Phrases::calls), unfolding(crate::specs::Moves::set_phrase))]
-pub(crate) fn set<B: Bus>(
+fn set<B: Bus>(
     condition: Condition,
     operands: Operands,
     p: &Proc,
@@ -210,5 +278,28 @@ pub(crate) fn set<B: Bus>(
             put(Width::W8, p, first, found, bus)
         }
         _ => Err(Break::Fault(undefined_opcode())),
+    }
+}
+
+/// An operation of this group.
+#[tactic(auto, using(m386_base::proofs::Phrases::calls))]
+pub(crate) fn perform_moves<B: Bus>(
+    moves: Moves,
+    manner: Manner,
+    operands: Operands,
+    p: &Proc,
+    bus: &mut B,
+) -> Result<Proc, Break>
+    requires free { (B.view bus.old).kept ≡ false }
+    ensures cycles { Performs (moves_phrase moves manner operands p.now) (B.view bus.old) (B.view bus.new) it result }
+    ensures free { (B.view bus.new).kept ≡ false }
+{
+    match moves {
+        Moves::Move => move_operand(manner, operands, p, bus),
+        Moves::Extend { signed, from } => extend(signed, from, manner, operands, p, bus),
+        Moves::Exchange => exchange(manner, operands, p, bus),
+        Moves::Address => load_address(manner, operands, p, bus),
+        Moves::Translate => translate(operands, p, bus),
+        Moves::Set(condition) => set(condition, operands, p, bus),
     }
 }

@@ -5,7 +5,7 @@ ghost use Rattle.m386_access.specs.After.{register_at};
 ghost use Rattle.m386_access.specs.Registers.{eax};
 ghost use Rattle.m386_base.specs.Phrase.{Performs, it};
 ghost use Rattle.m386_data.specs.Change.{low_of};
-ghost use Rattle.m386_data.specs.Products.{upper_register, with_halves, multiplied, with_product, multiply_accumulator_phrase, multiply_two_phrase, multiply_phrase, quotient_by, divided_phrase, divide_phrase};
+ghost use Rattle.m386_data.specs.Products.{products_of, products_phrase, upper_register, with_halves, multiplied, with_product, multiply_accumulator_phrase, multiply_two_phrase, multiply_phrase, quotient_by, divided_phrase, divide_phrase};
 
 use crate::change::low;
 use m386_access::after::{register_at, with_flags, with_register_at};
@@ -17,7 +17,36 @@ use m386_base::bus::Bus;
 use m386_base::exception::{Exception, undefined_opcode};
 use m386_base::fault::Break;
 use m386_base::number::Width;
+use m386_opmap::name::Name;
 use m386_state::proc::Proc;
+
+/// What an operation of this group does.
+#[derive(Clone, Copy)]
+pub enum Products {
+    /// A product.
+    Multiply {
+        /// Whether the operands are read with a sign.
+        signed: bool,
+    },
+    /// A quotient and a remainder.
+    Divide {
+        /// Whether the operands are read with a sign.
+        signed: bool,
+    },
+}
+
+/// What the operation of a name does, where it is one of this group.
+pub fn products_of(name: Name) -> Option<Products>
+    ensures { result ≡ products_of name }
+{
+    Some(match name {
+        Name::Mul => Products::Multiply { signed: false },
+        Name::Imul => Products::Multiply { signed: true },
+        Name::Div => Products::Divide { signed: false },
+        Name::Idiv => Products::Divide { signed: true },
+        _ => return None,
+    })
+}
 
 /// The register of the upper half of a product or dividend (PRM 3.2.3, 3.2.4).
 fn upper_register(width: Width) -> u8
@@ -93,7 +122,7 @@ fn multiply_two<B: Bus>(
 
 /// MUL or IMUL, and the forms of IMUL with two and three operands.
 #[tactic(auto, using(m386_base::proofs::Phrases::calls), unfolding(crate::specs::Products::multiply_phrase))]
-pub(crate) fn multiply<B: Bus>(
+fn multiply<B: Bus>(
     signed: bool,
     manner: Manner,
     operands: Operands,
@@ -135,7 +164,7 @@ fn quotient(signed: bool, width: Width, p: &Proc, by: u32) -> Option<(u32, u32)>
 
 /// DIV or IDIV of the two registers by an operand. Interrupt 0 where `quotient` finds none.
 #[tactic(auto, using(m386_base::proofs::Phrases::calls), unfolding(crate::specs::Products::divide_phrase))]
-pub(crate) fn divide<B: Bus>(
+fn divide<B: Bus>(
     signed: bool,
     manner: Manner,
     operands: Operands,
@@ -160,5 +189,24 @@ pub(crate) fn divide<B: Bus>(
             }
         }
         _ => Err(Break::Fault(undefined_opcode())),
+    }
+}
+
+/// An operation of this group.
+#[tactic(auto, using(m386_base::proofs::Phrases::calls))]
+pub(crate) fn perform_products<B: Bus>(
+    products: Products,
+    manner: Manner,
+    operands: Operands,
+    p: &Proc,
+    bus: &mut B,
+) -> Result<Proc, Break>
+    requires free { (B.view bus.old).kept ≡ false }
+    ensures cycles { Performs (products_phrase products manner operands p.now) (B.view bus.old) (B.view bus.new) it result }
+    ensures free { (B.view bus.new).kept ≡ false }
+{
+    match products {
+        Products::Multiply { signed } => multiply(signed, manner, operands, p, bus),
+        Products::Divide { signed } => divide(signed, manner, operands, p, bus),
     }
 }

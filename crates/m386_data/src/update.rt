@@ -1,7 +1,7 @@
 //! Operations that change one operand, which is read and written.
 ghost use Rattle.std.specs.Prelude.{◌≡◌, false};
 ghost use Rattle.m386_base.specs.Phrase.{Performs, it};
-ghost use Rattle.m386_data.specs.Update.{put_found, change_memory_phrase, change_phrase, arithmetic_phrase, single_phrase, shift_phrase, double_shift_phrase};
+ghost use Rattle.m386_data.specs.Update.{update_of, update_phrase, put_found, change_memory_phrase, change_phrase, arithmetic_phrase, single_phrase, shift_phrase, double_shift_phrase};
 
 use crate::change::{Change, apply};
 use m386_access::address::address;
@@ -14,7 +14,53 @@ use m386_base::bus::Bus;
 use m386_base::exception::undefined_opcode;
 use m386_base::fault::Break;
 use m386_base::number::{Flags, Width};
+use m386_opmap::name::Name;
 use m386_state::proc::Proc;
+
+/// What an operation of this group does.
+#[derive(Clone, Copy)]
+pub enum Update {
+    /// Arithmetic or logic with a second operand.
+    Arithmetic(AluOp),
+    /// A change that needs no other operand.
+    Single(Change),
+    /// A shift or rotate.
+    Shift(ShiftOp),
+    /// A shift that takes in bits of a second operand.
+    DoubleShift {
+        /// Whether it goes to the left.
+        left: bool,
+    },
+}
+
+/// What the operation of a name does, where it is one of this group.
+pub fn update_of(name: Name) -> Option<Update>
+    ensures { result ≡ update_of name }
+{
+    Some(match name {
+        Name::Add => Update::Arithmetic(AluOp::Add),
+        Name::Or => Update::Arithmetic(AluOp::Or),
+        Name::Adc => Update::Arithmetic(AluOp::Adc),
+        Name::Sbb => Update::Arithmetic(AluOp::Sbb),
+        Name::And => Update::Arithmetic(AluOp::And),
+        Name::Sub => Update::Arithmetic(AluOp::Sub),
+        Name::Xor => Update::Arithmetic(AluOp::Xor),
+        Name::Inc => Update::Single(Change::Increment),
+        Name::Dec => Update::Single(Change::Decrement),
+        Name::Not => Update::Single(Change::Invert),
+        Name::Neg => Update::Single(Change::Negate),
+        Name::Rol => Update::Shift(ShiftOp::Rol),
+        Name::Ror => Update::Shift(ShiftOp::Ror),
+        Name::Rcl => Update::Shift(ShiftOp::Rcl),
+        Name::Rcr => Update::Shift(ShiftOp::Rcr),
+        Name::Shl => Update::Shift(ShiftOp::Shl),
+        Name::Shr => Update::Shift(ShiftOp::Shr),
+        Name::Sar => Update::Shift(ShiftOp::Sar),
+        Name::Shld => Update::DoubleShift { left: true },
+        Name::Shrd => Update::DoubleShift { left: false },
+        _ => return None,
+    })
+}
 
 /// Changes memory, and answers the state with the flags after it.
 #[tactic(auto, using(m386_base::proofs::Phrases::calls), unfolding(crate::specs::Update::change_memory_phrase))]
@@ -80,7 +126,7 @@ pub(crate) fn change_operand<B: Bus>(
 
 /// ADD, OR, ADC, SBB, AND, SUB or XOR. The second operand is read first.
 #[tactic(auto, using(m386_base::proofs::Phrases::calls), unfolding(crate::specs::Update::arithmetic_phrase))]
-pub(crate) fn arithmetic<B: Bus>(
+fn arithmetic<B: Bus>(
     op: AluOp,
     manner: Manner,
     operands: Operands,
@@ -102,7 +148,7 @@ pub(crate) fn arithmetic<B: Bus>(
 
 /// INC, DEC, NOT or NEG.
 #[tactic(auto, using(m386_base::proofs::Phrases::calls), unfolding(crate::specs::Update::single_phrase))]
-pub(crate) fn single<B: Bus>(
+fn single<B: Bus>(
     change: Change,
     manner: Manner,
     operands: Operands,
@@ -121,7 +167,7 @@ pub(crate) fn single<B: Bus>(
 
 /// A shift or rotate, by a number or CL.
 #[tactic(auto, using(m386_base::proofs::Phrases::calls), unfolding(crate::specs::Update::shift_phrase))]
-pub(crate) fn shift_operand<B: Bus>(
+fn shift_operand<B: Bus>(
     op: ShiftOp,
     manner: Manner,
     operands: Operands,
@@ -143,7 +189,7 @@ pub(crate) fn shift_operand<B: Bus>(
 
 /// SHLD or SHRD, by a number or CL.
 #[tactic(auto, using(m386_base::proofs::Phrases::calls), unfolding(crate::specs::Update::double_shift_phrase))]
-pub(crate) fn double_shift_operand<B: Bus>(
+fn double_shift_operand<B: Bus>(
     left: bool,
     manner: Manner,
     operands: Operands,
@@ -171,5 +217,26 @@ pub(crate) fn double_shift_operand<B: Bus>(
             )
         }
         _ => Err(Break::Fault(undefined_opcode())),
+    }
+}
+
+/// An operation of this group.
+#[tactic(auto, using(m386_base::proofs::Phrases::calls))]
+pub(crate) fn perform_update<B: Bus>(
+    update: Update,
+    manner: Manner,
+    operands: Operands,
+    p: &Proc,
+    bus: &mut B,
+) -> Result<Proc, Break>
+    requires free { (B.view bus.old).kept ≡ false }
+    ensures cycles { Performs (update_phrase update manner operands p.now) (B.view bus.old) (B.view bus.new) it result }
+    ensures free { (B.view bus.new).kept ≡ false }
+{
+    match update {
+        Update::Arithmetic(op) => arithmetic(op, manner, operands, p, bus),
+        Update::Single(change) => single(change, manner, operands, p, bus),
+        Update::Shift(op) => shift_operand(op, manner, operands, p, bus),
+        Update::DoubleShift { left } => double_shift_operand(left, manner, operands, p, bus),
     }
 }
