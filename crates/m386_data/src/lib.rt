@@ -10,5 +10,7 @@ pub mod exec;
 pub mod laws;
 pub mod moves;
 pub mod products;
+#[cfg(test)]
+mod tests;
 pub mod update;
 pub mod work;
