@@ -1,6 +1,8 @@
 //! Moves, exchanges, addresses and bounds.
-use super::{at, bare, behind, comes_to, flagged, interrupt, joined, loaded, read, words, write};
-use m386_base::exception::Exception;
+use super::{
+    at, bare, behind, comes_to, flagged, in_segment, interrupt, joined, loaded, read, words, write,
+};
+use m386_base::exception::{Exception, general_protection};
 use m386_base::number::Width::{W8, W16, W32};
 use m386_opmap::name::Name;
 use m386_opmap::op::Addr;
@@ -128,28 +130,58 @@ fn exchanges(rt: HostRuntime) {
 #[test]
 fn addresses(rt: HostRuntime) {
     let p = bare();
-    // A0A1A2A3h + C0C1C2C3h * 8 + 5 = 6A6AFB8C0h.
-    let sum = Mem(Addr {
-        seg: None,
-        base: Some(0),
-        index: Some(1),
-        scale: 8,
-        disp: 5,
-    });
-    comes_to(
-        &rt,
-        words(Name::Lea, W32, &[Reg(7), sum]),
-        &p,
-        &[],
-        Ok(loaded(&p, 7, 0xa6af_b8c0)),
-    );
-    comes_to(
-        &rt,
-        words(Name::Lea, W16, &[Reg(7), sum]),
-        &p,
-        &[],
-        Ok(loaded(&p, 7, 0x7071_b8c0)),
-    );
+    // A0A1A2A3h + C0C1C2C3h * scale + 5, modulo 2^32.
+    for (scale, sum) in [
+        (1, 0x6163_656b_u32),
+        (2, 0x2225_282e),
+        (4, 0xa3a8_adb4),
+        (8, 0xa6af_b8c0),
+    ] {
+        let address = Mem(Addr {
+            seg: None,
+            base: Some(0),
+            index: Some(1),
+            scale,
+            disp: 5,
+        });
+        let args = [Reg(7), address];
+        comes_to(
+            &rt,
+            words(Name::Lea, W32, &args),
+            &p,
+            &[],
+            Ok(loaded(&p, 7, sum)),
+        );
+        let after = loaded(&p, 7, 0x7071_0000 + sum % 65536);
+        comes_to(&rt, words(Name::Lea, W16, &args), &p, &[], Ok(after));
+    }
+    // 14h + FFFFFFFCh goes round to 10h, past a limit of Fh in DS, and is reached through SS.
+    let pointed = in_segment(&loaded(&p, 3, 0x14), 0x93, 0xf);
+    let cycles = [read(0, 0x10, 1, 0x11)];
+    for (seg, end) in [
+        (None, Err(general_protection())),
+        (Some(2), Ok(loaded(&pointed, 0, 0xa0a1_a211))),
+    ] {
+        let address = Mem(Addr {
+            seg,
+            base: Some(3),
+            index: None,
+            scale: 1,
+            disp: 0xffff_fffc,
+        });
+        let made = if seg.is_some() {
+            cycles.as_slice()
+        } else {
+            &cycles[1..]
+        };
+        comes_to(
+            &rt,
+            words(Name::Mov, W8, &[Reg(0), address]),
+            &pointed,
+            made,
+            end,
+        );
+    }
     // FFFFFF6Dh + A3h goes round to 10h.
     let table = loaded(&p, 3, 0xffff_ff6d);
     let cycles = [read(0, 0x10, 1, 0x11)];
