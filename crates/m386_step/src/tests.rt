@@ -409,11 +409,16 @@ fn exchange_is_one_locked_group(rt: HostRuntime) {
             after: pending(&p, 13, Some(0)),
         },
         Case {
-            name: "XCHG of two registers, which isn't built",
+            name: "XCHG EBP, EAX, which makes no cycle of its own",
             before: p,
             code: &[0x87, 0xc5, 0, 0, 0, 0, 0, 0],
             cycles: &[fetch(0x1000, 0xc587)],
-            after: pending(&p, 6, None),
+            after: loaded(
+                &loaded(&p, 0x1002, 0, 0x5051_5253),
+                0x1002,
+                5,
+                0xa0a1_a2a3,
+            ),
         },
     ];
     for case in &cases {
