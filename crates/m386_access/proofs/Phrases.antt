@@ -22,9 +22,9 @@ use Rattle.m386_access.specs.declared.operands.Operands.{Operands}
 use Rattle.m386_access.specs.declared.operands.Operands.TheVariants.{Absent, One, Two, Three, Others}
 use Rattle.m386_opmap.specs.declared.op.Addr.{Addr}
 use Rattle.m386_access.specs.Ordinary.{Ordinary, Reads, Writes, is_read_role, is_write_role, is_behind, is_nested, Keeps}
-use Rattle.m386_access.specs.declared.operands.Operand.{Operand}
-use Rattle.m386_access.specs.declared.operands.Operand.TheVariants.{Register, Number, Other}
-use Rattle.m386_access.specs.declared.operands.Operand.TheVariants as operands
+use Rattle.m386_access.specs.declared.operands.Place.{Place}
+use Rattle.m386_access.specs.declared.operands.Place.TheVariants.{Register, Number, Other}
+use Rattle.m386_access.specs.declared.operands.Place.TheVariants as operands
 use Rattle.m386_base.specs.Plain.{Plain}
 use Rattle.m386_base.proofs.Plain.{plain_done, plain_faults, plain_if, plain_bind, plain_within, plain_ends}
 
@@ -144,40 +144,40 @@ two_inspect gdt p seg offset len lock ts =
 pub inspect_then : (gdt : TableReg) → {B : Type 0} (n : ℕ) (ends : List Ask → B → Type 0) (ts : List Ask) (p : Proc) (seg offset len : ℕ) (lock : Bool) (f : ℕ → Phrase B) → nat_le 2 n ≡ true → ((us : List Ask) (v : ℕ) → Plain (n - 2) (Ordinary gdt) ends us (f v)) → Plain n (Ordinary gdt) ends ts (inspect_phrase p seg offset len lock >>= f)
 inspect_then gdt n ends ts p seg offset len lock f l k = plain_bind 2 n (Ordinary gdt) Anything ends ts _ f (grind (arith, l)) (two_inspect gdt p seg offset len lock ts) (λ us v o. k us v)
 
-two_value : (gdt : TableReg) (w : Width) (p : Proc) (operand : Operand) (ts : List Ask) → Plain 2 (Ordinary gdt) Anything ts (value_phrase w p operand)
+two_value : (gdt : TableReg) (w : Width) (p : Proc) (operand : Place) (ts : List Ask) → Plain 2 (Ordinary gdt) Anything ts (value_phrase w p operand)
 unfolding value_phrase
 two_value gdt w p (Register register) ts = plain_done 2 (Ordinary gdt) Anything ts _ tt
 two_value gdt w p (Number number) ts = plain_done 2 (Ordinary gdt) Anything ts _ tt
 two_value gdt w p (operands.Memory a) ts = two_read gdt p roles.Operand (segment_number a.seg a.base) (offset_of p a) (len_of w) ts refl
 two_value gdt w p Other ts = plain_faults 2 (Ordinary gdt) Anything ts _
 
-pub on_register_plain : {B : Type 0} (gdt : TableReg) (n : ℕ) (ends : List Ask → B → Type 0) (ts : List Ask) (operand : Operand) (f : ℕ → Phrase B) → ((register : ℕ) → Plain n (Ordinary gdt) ends ts (f register)) → Plain n (Ordinary gdt) ends ts (on_register operand f)
+pub on_register_plain : {B : Type 0} (gdt : TableReg) (n : ℕ) (ends : List Ask → B → Type 0) (ts : List Ask) (operand : Place) (f : ℕ → Phrase B) → ((register : ℕ) → Plain n (Ordinary gdt) ends ts (f register)) → Plain n (Ordinary gdt) ends ts (on_register operand f)
 on_register_plain gdt n ends ts (Register register) f k = k register
 on_register_plain gdt n ends ts (Number number) f k = plain_faults n (Ordinary gdt) ends ts _
 on_register_plain gdt n ends ts (operands.Memory a) f k = plain_faults n (Ordinary gdt) ends ts _
 on_register_plain gdt n ends ts Other f k = plain_faults n (Ordinary gdt) ends ts _
 
-pub on_memory_plain : {B : Type 0} (gdt : TableReg) (n : ℕ) (ends : List Ask → B → Type 0) (ts : List Ask) (operand : Operand) (f : Addr → Phrase B) → ((a : Addr) → Plain n (Ordinary gdt) ends ts (f a)) → Plain n (Ordinary gdt) ends ts (on_memory operand f)
+pub on_memory_plain : {B : Type 0} (gdt : TableReg) (n : ℕ) (ends : List Ask → B → Type 0) (ts : List Ask) (operand : Place) (f : Addr → Phrase B) → ((a : Addr) → Plain n (Ordinary gdt) ends ts (f a)) → Plain n (Ordinary gdt) ends ts (on_memory operand f)
 on_memory_plain gdt n ends ts (Register register) f k = plain_faults n (Ordinary gdt) ends ts _
 on_memory_plain gdt n ends ts (Number number) f k = plain_faults n (Ordinary gdt) ends ts _
 on_memory_plain gdt n ends ts (operands.Memory a) f k = k a
 on_memory_plain gdt n ends ts Other f k = plain_faults n (Ordinary gdt) ends ts _
 
-pub on_one_plain : {B : Type 0} (gdt : TableReg) (n : ℕ) (ends : List Ask → B → Type 0) (ts : List Ask) (os : Operands) (f : Operand → Phrase B) → ((a : Operand) → Plain n (Ordinary gdt) ends ts (f a)) → Plain n (Ordinary gdt) ends ts (on_one os f)
+pub on_one_plain : {B : Type 0} (gdt : TableReg) (n : ℕ) (ends : List Ask → B → Type 0) (ts : List Ask) (os : Operands) (f : Place → Phrase B) → ((a : Place) → Plain n (Ordinary gdt) ends ts (f a)) → Plain n (Ordinary gdt) ends ts (on_one os f)
 on_one_plain gdt n ends ts Absent f k = plain_faults n (Ordinary gdt) ends ts _
 on_one_plain gdt n ends ts (One a) f k = k a
 on_one_plain gdt n ends ts (Two a b) f k = plain_faults n (Ordinary gdt) ends ts _
 on_one_plain gdt n ends ts (Three a b c) f k = plain_faults n (Ordinary gdt) ends ts _
 on_one_plain gdt n ends ts Others f k = plain_faults n (Ordinary gdt) ends ts _
 
-pub on_two_plain : {B : Type 0} (gdt : TableReg) (n : ℕ) (ends : List Ask → B → Type 0) (ts : List Ask) (os : Operands) (f : Operand → Operand → Phrase B) → ((a b : Operand) → Plain n (Ordinary gdt) ends ts (f a b)) → Plain n (Ordinary gdt) ends ts (on_two os f)
+pub on_two_plain : {B : Type 0} (gdt : TableReg) (n : ℕ) (ends : List Ask → B → Type 0) (ts : List Ask) (os : Operands) (f : Place → Place → Phrase B) → ((a b : Place) → Plain n (Ordinary gdt) ends ts (f a b)) → Plain n (Ordinary gdt) ends ts (on_two os f)
 on_two_plain gdt n ends ts Absent f k = plain_faults n (Ordinary gdt) ends ts _
 on_two_plain gdt n ends ts (One a) f k = plain_faults n (Ordinary gdt) ends ts _
 on_two_plain gdt n ends ts (Two a b) f k = k a b
 on_two_plain gdt n ends ts (Three a b c) f k = plain_faults n (Ordinary gdt) ends ts _
 on_two_plain gdt n ends ts Others f k = plain_faults n (Ordinary gdt) ends ts _
 
-pub on_three_plain : {B : Type 0} (gdt : TableReg) (n : ℕ) (ends : List Ask → B → Type 0) (ts : List Ask) (os : Operands) (f : Operand → Operand → Operand → Phrase B) → ((a b c : Operand) → Plain n (Ordinary gdt) ends ts (f a b c)) → Plain n (Ordinary gdt) ends ts (on_three os f)
+pub on_three_plain : {B : Type 0} (gdt : TableReg) (n : ℕ) (ends : List Ask → B → Type 0) (ts : List Ask) (os : Operands) (f : Place → Place → Place → Phrase B) → ((a b c : Place) → Plain n (Ordinary gdt) ends ts (f a b c)) → Plain n (Ordinary gdt) ends ts (on_three os f)
 on_three_plain gdt n ends ts Absent f k = plain_faults n (Ordinary gdt) ends ts _
 on_three_plain gdt n ends ts (One a) f k = plain_faults n (Ordinary gdt) ends ts _
 on_three_plain gdt n ends ts (Two a b) f k = plain_faults n (Ordinary gdt) ends ts _
@@ -185,7 +185,7 @@ on_three_plain gdt n ends ts (Three a b c) f k = k a b c
 on_three_plain gdt n ends ts Others f k = plain_faults n (Ordinary gdt) ends ts _
 
 -- An operand's value, and what follows.
-pub value_then : (gdt : TableReg) → {B : Type 0} (n : ℕ) (ends : List Ask → B → Type 0) (ts : List Ask) (w : Width) (p : Proc) (operand : Operand) (f : ℕ → Phrase B) → nat_le 2 n ≡ true → ((us : List Ask) (v : ℕ) → Plain (n - 2) (Ordinary gdt) ends us (f v)) → Plain n (Ordinary gdt) ends ts (value_phrase w p operand >>= f)
+pub value_then : (gdt : TableReg) → {B : Type 0} (n : ℕ) (ends : List Ask → B → Type 0) (ts : List Ask) (w : Width) (p : Proc) (operand : Place) (f : ℕ → Phrase B) → nat_le 2 n ≡ true → ((us : List Ask) (v : ℕ) → Plain (n - 2) (Ordinary gdt) ends us (f v)) → Plain n (Ordinary gdt) ends ts (value_phrase w p operand >>= f)
 value_then gdt n ends ts w p operand f l k = plain_bind 2 n (Ordinary gdt) Anything ends ts _ f (grind (arith, l)) (two_value gdt w p operand ts) (λ us v o. k us v)
 
 -- A state with NT as it was, and TR and the GDT register, is kept.
@@ -219,7 +219,7 @@ stays_register W16 p q register value s = whole_register p q register _ s
 stays_register W8 p q register value s = stays_if p (register / 4 % 2 == 0) _ _ (whole_register p q _ _ s) (whole_register p q _ _ s)
 
 -- An operand put to a value, at the end of an operation.
-pub put_plain : (n : ℕ) (w : Width) (p q : Proc) (operand : Operand) (value : ℕ) (ts : List Ask) → nat_le 2 n ≡ true → Stays p q → Plain n (Ordinary p.gdtr) (Keeps p) ts (put_phrase w q operand value)
+pub put_plain : (n : ℕ) (w : Width) (p q : Proc) (operand : Place) (value : ℕ) (ts : List Ask) → nat_le 2 n ≡ true → Stays p q → Plain n (Ordinary p.gdtr) (Keeps p) ts (put_phrase w q operand value)
 unfolding put_phrase store_phrase
 put_plain n w p q (Register register) value ts l s = plain_done n (Ordinary p.gdtr) (Keeps p) ts _ (keeps_stays p ts _ (stays_register w p q register value s))
 put_plain n w p q (Number number) value ts l s = plain_faults n (Ordinary p.gdtr) (Keeps p) ts _

@@ -11,8 +11,8 @@ use Rattle.m386_state.specs.declared.proc.Proc.{Proc}
 use Rattle.m386_access.specs.Access.{read_at_phrase, write_at_phrase}
 use Rattle.m386_access.specs.After.{len_of, register_at, with_register_at}
 use Rattle.m386_access.specs.declared.operands.Manner.{Manner}
-use Rattle.m386_access.specs.declared.operands.Operand.{Operand}
-use Rattle.m386_access.specs.declared.operands.Operand.TheVariants.{Register, Number, Memory, Other}
+use Rattle.m386_access.specs.declared.operands.Place.{Place}
+use Rattle.m386_access.specs.declared.operands.Place.TheVariants.{Register, Number, Memory, Other}
 use Rattle.m386_access.specs.declared.operands.Operands.{Operands}
 use Rattle.m386_access.specs.declared.operands.Operands.TheVariants.{Absent, One, Two, Three, Others}
 
@@ -20,8 +20,8 @@ use Rattle.m386_access.specs.declared.operands.Operands.TheVariants.{Absent, One
 abbrev pub manner_of : Op → Manner
 manner_of op = record { width = op.width; lock = op.lock }
 
--- an operand
-abbrev pub operand_of : Arg → Operand
+-- where an operand is
+abbrev pub operand_of : Arg → Place
 operand_of (args.Reg register) = Register register
 operand_of (args.Imm number) = Number number
 operand_of (args.Mem a) = Memory a
@@ -36,7 +36,7 @@ forms_of (a ∷ b ∷ c ∷ []) = Three (operand_of a) (operand_of b) (operand_o
 forms_of _ = Others
 
 -- an operand that is a general register, a number or memory
-abbrev pub is_general : Operand → Bool
+abbrev pub is_general : Place → Bool
 is_general Other = false
 is_general _ = true
 
@@ -53,34 +53,34 @@ unfoldable pub operands_of : Op → Operands
 operands_of op = forms_of op.args.items
 
 -- what is done with a register
-abbrev pub on_register : {A : Type 0} → Operand → (ℕ → Phrase A) → Phrase A
+abbrev pub on_register : {A : Type 0} → Place → (ℕ → Phrase A) → Phrase A
 on_register (Register register) f = f register
 on_register _ f = Faults undefined_opcode_of
 
 -- what is done with memory
-abbrev pub on_memory : {A : Type 0} → Operand → (Addr → Phrase A) → Phrase A
+abbrev pub on_memory : {A : Type 0} → Place → (Addr → Phrase A) → Phrase A
 on_memory (Memory a) f = f a
 on_memory _ f = Faults undefined_opcode_of
 
 -- What is done with just one operand. Here and below, other operands are #UD.
 -- Own choice: docs/DECISIONS.md, "Operations that aren't built"
-abbrev pub on_one : {A : Type 0} → Operands → (Operand → Phrase A) → Phrase A
+abbrev pub on_one : {A : Type 0} → Operands → (Place → Phrase A) → Phrase A
 on_one (One a) f = f a
 on_one _ f = Faults undefined_opcode_of
 
 -- with two
-abbrev pub on_two : {A : Type 0} → Operands → (Operand → Operand → Phrase A) → Phrase A
+abbrev pub on_two : {A : Type 0} → Operands → (Place → Place → Phrase A) → Phrase A
 on_two (Two a b) f = f a b
 on_two _ f = Faults undefined_opcode_of
 
 -- with three
-abbrev pub on_three : {A : Type 0} → Operands → (Operand → Operand → Operand → Phrase A) → Phrase A
+abbrev pub on_three : {A : Type 0} → Operands → (Place → Place → Place → Phrase A) → Phrase A
 on_three (Three a b c) f = f a b c
 on_three _ f = Faults undefined_opcode_of
 
 -- An operand's value, by its width.
 -- Source: Intel 80386 PRM 2.5; #UD: docs/DECISIONS.md, "Operations that aren't built"
-unfoldable pub value_phrase : Width → Proc → Operand → Phrase ℕ
+unfoldable pub value_phrase : Width → Proc → Place → Phrase ℕ
 value_phrase w p (Register register) = Done (register_at w p register)
 value_phrase w p (Number number) = Done number
 value_phrase w p (Memory a) = read_at_phrase p a (len_of w)
@@ -94,7 +94,7 @@ store_phrase w p a value = do
 
 -- The state with an operand put to a value, by its width.
 -- Source: Intel 80386 PRM 2.5; #UD: docs/DECISIONS.md, "Operations that aren't built"
-unfoldable pub put_phrase : Width → Proc → Operand → ℕ → Phrase Proc
+unfoldable pub put_phrase : Width → Proc → Place → ℕ → Phrase Proc
 put_phrase w p (Register register) value = Done (with_register_at w p register value)
 put_phrase w p (Memory a) value = store_phrase w p a value
 put_phrase w p (Number number) value = Faults undefined_opcode_of

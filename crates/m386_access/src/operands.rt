@@ -17,18 +17,18 @@ use m386_state::proc::Proc;
 pub struct Manner {
     /// How wide they are.
     pub width: Width,
-    /// Whether memory that is read and written is one locked group.
+    /// Whether they have LOCK: the cycles on memory that is changed are one locked group.
     pub lock: bool,
 }
 
-/// An operand.
+/// Where an operand is.
 #[derive(Clone, Copy)]
-pub enum Operand {
-    /// A general register, by its number.
+pub enum Place {
+    /// In a general register, by its number.
     Register(u8),
-    /// A number.
+    /// In the instruction, as a number.
     Number(u32),
-    /// Memory.
+    /// In memory.
     Memory(Addr),
     /// Any other.
     Other,
@@ -40,11 +40,11 @@ pub enum Operands {
     /// None.
     Absent,
     /// One.
-    One(Operand),
+    One(Place),
     /// Two.
-    Two(Operand, Operand),
+    Two(Place, Place),
     /// Three.
-    Three(Operand, Operand, Operand),
+    Three(Place, Place, Place),
     /// Any others.
     Others,
 }
@@ -60,14 +60,14 @@ pub fn manner_of(op: &Op) -> Manner
 }
 
 /// An operand by its form.
-fn operand_of(arg: Arg) -> Operand
+fn operand_of(arg: Arg) -> Place
     ensures { result ≡ operand_of arg }
 {
     match arg {
-        Arg::Reg(register) => Operand::Register(register),
-        Arg::Imm(number) => Operand::Number(number),
-        Arg::Mem(address) => Operand::Memory(address),
-        Arg::Seg(_) | Arg::Cr0 | Arg::Rel(_) | Arg::Far { .. } => Operand::Other,
+        Arg::Reg(register) => Place::Register(register),
+        Arg::Imm(number) => Place::Number(number),
+        Arg::Mem(address) => Place::Memory(address),
+        Arg::Seg(_) | Arg::Cr0 | Arg::Rel(_) | Arg::Far { .. } => Place::Other,
     }
 }
 
@@ -85,10 +85,10 @@ fn forms_of(args: &[Arg]) -> Operands
 }
 
 /// Whether an operand is a general register, a number or memory.
-fn is_general(operand: Operand) -> bool
+fn is_general(operand: Place) -> bool
     ensures { result ≡ is_general operand }
 {
-    !matches!(operand, Operand::Other)
+    !matches!(operand, Place::Other)
 }
 
 /// Whether each operand is a general register, a number or memory.
@@ -114,16 +114,16 @@ pub fn operands_of(op: &Op) -> Operands
 
 /// An operand's value, by its width. A fault as in `read`, or #UD for one that has none.
 #[tactic(auto, using(m386_base::proofs::Phrases::calls), unfolding(crate::specs::Operands::value_phrase))]
-pub fn value<B: Bus>(width: Width, p: &Proc, operand: Operand, bus: &mut B) -> Result<u32, Break>
+pub fn value<B: Bus>(width: Width, p: &Proc, operand: Place, bus: &mut B) -> Result<u32, Break>
     requires free { (B.view bus.old).kept ≡ false }
     ensures cycles { Performs (value_phrase width p.now operand) (B.view bus.old) (B.view bus.new) it result }
     ensures free { (B.view bus.new).kept ≡ false }
 {
     match operand {
-        Operand::Register(register) => Ok(register_at(width, p, register)),
-        Operand::Number(number) => Ok(number),
-        Operand::Memory(address) => read_at(p, &address, len_of(width), bus),
-        Operand::Other => Err(Break::Fault(undefined_opcode())),
+        Place::Register(register) => Ok(register_at(width, p, register)),
+        Place::Number(number) => Ok(number),
+        Place::Memory(address) => read_at(p, &address, len_of(width), bus),
+        Place::Other => Err(Break::Fault(undefined_opcode())),
     }
 }
 
@@ -143,7 +143,7 @@ fn store<B: Bus>(width: Width, p: &Proc, a: &Addr, value: u32, bus: &mut B) -> R
 pub fn put<B: Bus>(
     width: Width,
     p: &Proc,
-    operand: Operand,
+    operand: Place,
     value: u32,
     bus: &mut B,
 ) -> Result<Proc, Break>
@@ -152,8 +152,8 @@ pub fn put<B: Bus>(
     ensures free { (B.view bus.new).kept ≡ false }
 {
     match operand {
-        Operand::Register(register) => Ok(with_register_at(width, p, register, value)),
-        Operand::Memory(address) => store(width, p, &address, value, bus),
-        Operand::Number(_) | Operand::Other => Err(Break::Fault(undefined_opcode())),
+        Place::Register(register) => Ok(with_register_at(width, p, register, value)),
+        Place::Memory(address) => store(width, p, &address, value, bus),
+        Place::Number(_) | Place::Other => Err(Break::Fault(undefined_opcode())),
     }
 }

@@ -1,4 +1,4 @@
--- The law of each kind of work.
+-- The law of each kind of action.
 use Rattle.std.proofs.Common.{◌≡◌, ℕ, ◌+◌, ◌-◌, ◌/◌, ◌%◌, ◌^◌, ◌==◌, refl, ◌∙◌, ap, arith, nat_le, Option, Some, None, List, [], Bool, true, false}
 use Rattle.m386_base.specs.declared.ask.Ask.{Ask}
 use Rattle.m386_base.specs.declared.ask.Role.TheVariants as roles
@@ -29,8 +29,8 @@ use Rattle.m386_access.specs.Registers.{eax, edx, ah}
 use Rattle.m386_access.specs.Ordinary.{Ordinary, Keeps, PlainFrom}
 use Rattle.m386_access.specs.declared.conditions.Condition.{Condition}
 use Rattle.m386_access.specs.declared.operands.Manner.{Manner}
-use Rattle.m386_access.specs.declared.operands.Operand.{Operand}
-use Rattle.m386_access.specs.declared.operands.Operand.TheVariants.{Register, Number, Memory, Other}
+use Rattle.m386_access.specs.declared.operands.Place.{Place}
+use Rattle.m386_access.specs.declared.operands.Place.TheVariants.{Register, Number, Memory, Other}
 use Rattle.m386_access.specs.declared.operands.Operands.{Operands}
 use Rattle.m386_access.specs.declared.operands.Operands.TheVariants.{Absent, One, Two, Three, Others}
 use Rattle.m386_access.proofs.Phrases.{plain, Stays, keeps_stays, stays_same, stays_register, stays_if, Anything, read_then, value_then, modify_then, inspect_then}
@@ -39,11 +39,11 @@ use Rattle.m386_data.specs.BitStrings.{bit_test_phrase, bit_of_phrase, bit_strin
 use Rattle.m386_data.specs.Bound.{bound_phrase, bounds_phrase, check_bounds_phrase}
 use Rattle.m386_data.specs.Change.{changed, low_of}
 use Rattle.m386_data.specs.Compare.{comparison_phrase, compare_phrase, scan_phrase, scanned}
-use Rattle.m386_data.specs.Exec.{work_phrase, named_phrase, exec_phrase}
+use Rattle.m386_data.specs.Exec.{action_phrase, named_phrase, exec_phrase}
 use Rattle.m386_data.specs.Moves.{moves_phrase, extended_of, move_phrase, extend_phrase, address_phrase, swap_phrase, exchange_with_phrase, exchange_phrase, table_byte_phrase, translate_phrase, set_phrase}
 use Rattle.m386_data.specs.Products.{products_phrase, multiply_accumulator_phrase, multiply_two_phrase, multiply_phrase, divide_phrase, divided_phrase, with_halves, multiplied, with_product, upper_register}
 use Rattle.m386_data.specs.Update.{update_phrase, change_memory_phrase, change_phrase, arithmetic_phrase, single_phrase, shift_phrase, double_shift_phrase}
-use Rattle.m386_data.specs.Work.{work_of}
+use Rattle.m386_data.specs.Action.{action_of}
 use Rattle.m386_data.specs.declared.compare.Comparison.{Comparison}
 use Rattle.m386_data.specs.declared.compare.Comparison.TheVariants as comparisons
 use Rattle.m386_data.specs.declared.moves.Moves.{Moves}
@@ -57,8 +57,8 @@ use Rattle.m386_data.specs.declared.alone.Alone.TheVariants as alones
 use Rattle.m386_data.specs.declared.change.Change.{Change}
 use Rattle.m386_data.specs.declared.change.Change.TheVariants.{Arithmetic, Increment, Decrement, Invert, Negate, Shift, DoubleShift, Bit}
 use Rattle.m386_data.specs.declared.compare.Scan.{Scan}
-use Rattle.m386_data.specs.declared.work.Work.{Work}
-use Rattle.m386_data.specs.declared.work.Work.TheVariants as works
+use Rattle.m386_data.specs.declared.action.Action.{Action}
+use Rattle.m386_data.specs.declared.action.Action.TheVariants as actions
 
 -- A change leaves all flags but the arithmetic ones.
 changed_keeps : (change : Change) (w : Width) (a : ℕ) (f : Flags) → KeepsOthers f (changed change w a f).1
@@ -89,7 +89,7 @@ change_memory_plain n change m p seg offset ts l =
     modify_then p.gdtr n (Keeps p) ts p seg offset (len_of m.width) m.lock _ _ l
     (λ us v. plain_done (n - 4) (Ordinary p.gdtr) (Keeps p) us _ (keeps_stays p us _ (stays_changed change m.width p v)))
 
-change_plain : (n : ℕ) (change : Change) (m : Manner) (p : Proc) (operand : Operand) (ts : List Ask) → nat_le 4 n ≡ true → Plain n (Ordinary p.gdtr) (Keeps p) ts (change_phrase change m p operand)
+change_plain : (n : ℕ) (change : Change) (m : Manner) (p : Proc) (operand : Place) (ts : List Ask) → nat_le 4 n ≡ true → Plain n (Ordinary p.gdtr) (Keeps p) ts (change_phrase change m p operand)
 unfolding change_phrase
 change_plain n change m p (Register register) ts l =
     plain_done n (Ordinary p.gdtr) (Keeps p) ts _ (keeps_stays p ts _ (stays_register m.width p _ register _ (stays_changed change m.width p (register_at m.width p register))))
@@ -161,13 +161,13 @@ divided_plain : (n : ℕ) (w : Width) (p : Proc) (found : Option (ℕ × ℕ)) (
 divided_plain n w p (Some found) ts = plain_done n (Ordinary p.gdtr) (Keeps p) ts _ (keeps_stays p ts _ (stays_halves w p p found.1 found.0 (stays_same p)))
 divided_plain n w p None ts = plain_faults n (Ordinary p.gdtr) (Keeps p) ts _
 
-bit_string_plain : (op : BitOp) (m : Manner) (p : Proc) (a : Addr) (second : Operand) (ts : List Ask) → Plain 8 (Ordinary p.gdtr) (Keeps p) ts (bit_string_phrase op m p a second)
+bit_string_plain : (op : BitOp) (m : Manner) (p : Proc) (a : Addr) (second : Place) (ts : List Ask) → Plain 8 (Ordinary p.gdtr) (Keeps p) ts (bit_string_phrase op m p a second)
 bit_string_plain op m p a (Register register) ts = memory_bit_plain op m p (segment_number a.seg a.base) (unit_offset m.width (offset_of p a) (register_at m.width p register)) (register_at m.width p register) ts
 bit_string_plain op m p a (Number number) ts = memory_bit_plain op m p (segment_number a.seg a.base) (offset_of p a) number ts
 bit_string_plain op m p a (Memory b) ts = plain_faults 8 (Ordinary p.gdtr) (Keeps p) ts _
 bit_string_plain op m p a Other ts = plain_faults 8 (Ordinary p.gdtr) (Keeps p) ts _
 
-bit_of_plain : (op : BitOp) (m : Manner) (p : Proc) (first second : Operand) (ts : List Ask) → Plain 8 (Ordinary p.gdtr) (Keeps p) ts (bit_of_phrase op m p first second)
+bit_of_plain : (op : BitOp) (m : Manner) (p : Proc) (first second : Place) (ts : List Ask) → Plain 8 (Ordinary p.gdtr) (Keeps p) ts (bit_of_phrase op m p first second)
 unfolding register_bit_phrase
 bit_of_plain op m p (Register register) second ts =
     value_then p.gdtr 8 (Keeps p) ts m.width p second _ refl (λ us k. change_plain 6 (Bit op k) m p (Register register) us refl)
@@ -175,7 +175,7 @@ bit_of_plain op m p (Memory a) second ts = bit_string_plain op m p a second ts
 bit_of_plain op m p (Number number) second ts = plain_faults 8 (Ordinary p.gdtr) (Keeps p) ts _
 bit_of_plain op m p Other second ts = plain_faults 8 (Ordinary p.gdtr) (Keeps p) ts _
 
-exchange_with_plain : (w : Width) (p : Proc) (operand : Operand) (register : ℕ) (ts : List Ask) → Plain 8 (Ordinary p.gdtr) (Keeps p) ts (exchange_with_phrase w p operand register)
+exchange_with_plain : (w : Width) (p : Proc) (operand : Place) (register : ℕ) (ts : List Ask) → Plain 8 (Ordinary p.gdtr) (Keeps p) ts (exchange_with_phrase w p operand register)
 unfolding swap_phrase
 exchange_with_plain w p (Memory a) register ts =
     modify_then p.gdtr 8 (Keeps p) ts p (segment_number a.seg a.base) (offset_of p a) (len_of w) true _ _ refl
@@ -286,18 +286,18 @@ moves_plain moves_group.Translate m operands p = translate_plain operands p
 moves_plain (moves_group.Set condition) m operands p = set_plain condition operands p
 
 -- each group, one line
-work_plain : (work : Work) (m : Manner) (operands : Operands) (p : Proc) → PlainFrom 8 p (work_phrase work m operands p)
-work_plain (works.Update update) m operands p = update_plain update m operands p
-work_plain (works.Comparison comparison) m operands p = comparison_plain comparison m operands p
-work_plain (works.Products products) m operands p = products_plain products m operands p
-work_plain (works.BitTest op) m operands p = bit_test_plain op m operands p
-work_plain (works.Moves moves) m operands p = moves_plain moves m operands p
-work_plain (works.Alone alone) m operands p = plain_done 8 (Ordinary p.gdtr) (Keeps p) [] _ (keeps_stays p [] _ (stays_alone alone m.width p))
+action_plain : (action : Action) (m : Manner) (operands : Operands) (p : Proc) → PlainFrom 8 p (action_phrase action m operands p)
+action_plain (actions.Update update) m operands p = update_plain update m operands p
+action_plain (actions.Comparison comparison) m operands p = comparison_plain comparison m operands p
+action_plain (actions.Products products) m operands p = products_plain products m operands p
+action_plain (actions.BitTest op) m operands p = bit_test_plain op m operands p
+action_plain (actions.Moves moves) m operands p = moves_plain moves m operands p
+action_plain (actions.Alone alone) m operands p = plain_done 8 (Ordinary p.gdtr) (Keeps p) [] _ (keeps_stays p [] _ (stays_alone alone m.width p))
 
-named_plain : (work : Option Work) (m : Manner) (operands : Operands) (p : Proc) → PlainFrom 8 p (named_phrase work m operands p)
-named_plain (Some work) m operands p = work_plain work m operands p
+named_plain : (action : Option Action) (m : Manner) (operands : Operands) (p : Proc) → PlainFrom 8 p (named_phrase action m operands p)
+named_plain (Some action) m operands p = action_plain action m operands p
 named_plain None m operands p = plain_faults 8 (Ordinary p.gdtr) (Keeps p) [] _
 
 pub exec_plain : (op : Op) (p : Proc) → PlainFrom 8 p (exec_phrase op p)
 unfolding exec_phrase
-exec_plain op p = named_plain (work_of op.name) (manner_of op) (operands_of op) p
+exec_plain op p = named_plain (action_of op.name) (manner_of op) (operands_of op) p

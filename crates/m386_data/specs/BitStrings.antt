@@ -13,8 +13,8 @@ use Rattle.m386_access.specs.After.{len_of, register_at, with_flags}
 use Rattle.m386_access.specs.Modify.{inspect_phrase}
 use Rattle.m386_access.specs.Operands.{value_phrase, on_two}
 use Rattle.m386_access.specs.declared.operands.Manner.{Manner}
-use Rattle.m386_access.specs.declared.operands.Operand.{Operand}
-use Rattle.m386_access.specs.declared.operands.Operand.TheVariants.{Register, Number, Memory, Other}
+use Rattle.m386_access.specs.declared.operands.Place.{Place}
+use Rattle.m386_access.specs.declared.operands.Place.TheVariants.{Register, Number, Memory, Other}
 use Rattle.m386_access.specs.declared.operands.Operands.{Operands}
 use Rattle.m386_opmap.specs.declared.name.Name.{Name}
 use Rattle.m386_opmap.specs.declared.name.Name.TheVariants as names
@@ -53,14 +53,14 @@ memory_bit_phrase Reset m p seg offset k = change_memory_phrase (Bit Reset k) m 
 memory_bit_phrase Complement m p seg offset k = change_memory_phrase (Bit Complement k) m p seg offset
 
 -- a bit of a register
-unfoldable pub register_bit_phrase : BitOp → Manner → Proc → ℕ → Operand → Phrase Proc
+unfoldable pub register_bit_phrase : BitOp → Manner → Proc → ℕ → Place → Phrase Proc
 register_bit_phrase op m p register second = do
   k ← value_phrase m.width p second
   change_phrase (Bit op k) m p (Register register)
 
 -- A bit of memory, by a register or a number. Only a register reaches beyond the unit of its width.
 -- Source: Intel 80386 PRM 3.4.2
-abbrev pub bit_string_phrase : BitOp → Manner → Proc → Addr → Operand → Phrase Proc
+abbrev pub bit_string_phrase : BitOp → Manner → Proc → Addr → Place → Phrase Proc
 bit_string_phrase op m p a (Register register) =
     memory_bit_phrase op m p (segment_number a.seg a.base) (unit_offset m.width (offset_of p a) (register_at m.width p register)) (register_at m.width p register)
 bit_string_phrase op m p a (Number number) = memory_bit_phrase op m p (segment_number a.seg a.base) (offset_of p a) number
@@ -68,7 +68,7 @@ bit_string_phrase op m p a (Memory b) = Faults undefined_opcode_of
 bit_string_phrase op m p a Other = Faults undefined_opcode_of
 
 -- a bit of an operand
-abbrev pub bit_of_phrase : BitOp → Manner → Proc → Operand → Operand → Phrase Proc
+abbrev pub bit_of_phrase : BitOp → Manner → Proc → Place → Place → Phrase Proc
 bit_of_phrase op m p (Register register) second = register_bit_phrase op m p register second
 bit_of_phrase op m p (Memory a) second = bit_string_phrase op m p a second
 bit_of_phrase op m p (Number number) second = Faults undefined_opcode_of

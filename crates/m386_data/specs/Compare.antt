@@ -1,9 +1,9 @@
 -- Operations that read operands for their flags, or look for a bit.
-use Rattle.std.specs.Prelude.{ℕ, ◌-◌, ◌==◌, true, false, if◌then◌else◌, Option, Some, None}
+use Rattle.std.specs.Prelude.{◌≡◌, ℕ, ◌+◌, ◌-◌, ◌^◌, ◌<◌, ◌≤◌, ◌==◌, true, false, if◌then◌else◌, Option, Some, None}
 use Rattle.std.specs.Int.Count.{count_leading_zeros, count_trailing_zeros}
 use Rattle.m386_base.specs.declared.flags.Flag.TheVariants.{Zero}
 use Rattle.m386_base.specs.declared.number.Width.{Width}
-use Rattle.m386_base.specs.Flags.{with_flag}
+use Rattle.m386_base.specs.Flags.{has_bit, with_flag}
 use Rattle.m386_base.specs.Phrase.{Phrase, Done, ◌>>=◌}
 use Rattle.m386_state.specs.declared.proc.Proc.{Proc}
 use Rattle.m386_alu.specs.declared.arithmetic.AluOp.{AluOp}
@@ -43,6 +43,16 @@ compare_phrase op m operands p =
 abbrev pub place_of_one : Scan → ℕ → ℕ
 place_of_one Forward n = count_trailing_zeros 32 n
 place_of_one Reverse n = 31 - count_leading_zeros 32 n
+
+-- bit k is 1, and none below it
+pub record IsLowestOne (n k : ℕ) : Type 0 where
+  pub one : has_bit n k ≡ true
+  pub below : (i : ℕ) → i < k → has_bit n i ≡ false
+
+-- bit k is 1, and none above it: k + 1 bits are needed for the number
+pub record IsHighestOne (n k : ℕ) : Type 0 where
+  pub one : 2 ^ k ≤ n
+  pub above : n < 2 ^ (k + 1)
 
 -- The state after a scan of a number: ZF says whether it is 0, and then the register stays.
 -- Source: Intel 80386 PRM 3.4.3

@@ -7,4 +7,4 @@ pub mod Exec
 pub mod Moves
 pub mod Products
 pub mod Update
-pub mod Work
+pub mod Action

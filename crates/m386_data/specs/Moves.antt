@@ -17,8 +17,8 @@ use Rattle.m386_access.specs.Operands.{value_phrase, put_phrase, on_register, on
 use Rattle.m386_access.specs.Registers.{eax}
 use Rattle.m386_access.specs.declared.conditions.Condition.{Condition}
 use Rattle.m386_access.specs.declared.operands.Manner.{Manner}
-use Rattle.m386_access.specs.declared.operands.Operand.{Operand}
-use Rattle.m386_access.specs.declared.operands.Operand.TheVariants.{Register, Number, Memory, Other}
+use Rattle.m386_access.specs.declared.operands.Place.{Place}
+use Rattle.m386_access.specs.declared.operands.Place.TheVariants.{Register, Number, Memory, Other}
 use Rattle.m386_access.specs.declared.operands.Operands.{Operands}
 use Rattle.m386_opmap.specs.declared.name.Name.{Name}
 use Rattle.m386_opmap.specs.declared.name.Name.TheVariants as names
@@ -87,7 +87,7 @@ abbrev pub swapped : Width → Proc → ℕ → ℕ → Proc
 swapped w p a b = with_register_at w (with_register_at w p a (register_at w p b)) b (register_at w p a)
 
 -- an operand and a register
-abbrev pub exchange_with_phrase : Width → Proc → Operand → ℕ → Phrase Proc
+abbrev pub exchange_with_phrase : Width → Proc → Place → ℕ → Phrase Proc
 exchange_with_phrase w p (Memory a) register = swap_phrase w p a register
 exchange_with_phrase w p (Register other) register = Done (swapped w p other register)
 exchange_with_phrase w p (Number number) register = Faults undefined_opcode_of

@@ -12,8 +12,8 @@ use Rattle.m386_access.specs.After.{register_at, with_flags, with_register_at}
 use Rattle.m386_access.specs.Operands.{value_phrase, on_one, on_register}
 use Rattle.m386_access.specs.Registers.{eax, edx, ah}
 use Rattle.m386_access.specs.declared.operands.Manner.{Manner}
-use Rattle.m386_access.specs.declared.operands.Operand.{Operand}
-use Rattle.m386_access.specs.declared.operands.Operand.TheVariants.{Register}
+use Rattle.m386_access.specs.declared.operands.Place.{Place}
+use Rattle.m386_access.specs.declared.operands.Place.TheVariants.{Register}
 use Rattle.m386_access.specs.declared.operands.Operands.{Operands}
 use Rattle.m386_access.specs.declared.operands.Operands.TheVariants.{Absent, One, Two, Three, Others}
 use Rattle.m386_opmap.specs.declared.name.Name.{Name}
@@ -55,13 +55,13 @@ with_product signed w p register a b =
     with_register_at w (with_flags p found.2) register found.1
 
 -- the accumulator times an operand
-unfoldable pub multiply_accumulator_phrase : Bool → Width → Proc → Operand → Phrase Proc
+unfoldable pub multiply_accumulator_phrase : Bool → Width → Proc → Place → Phrase Proc
 multiply_accumulator_phrase signed w p operand = do
   b ← value_phrase w p operand
   Done (multiplied signed w p b)
 
 -- the lower half of the product of two operands, in a register
-unfoldable pub multiply_two_phrase : Bool → Width → Proc → ℕ → Operand → Operand → Phrase Proc
+unfoldable pub multiply_two_phrase : Bool → Width → Proc → ℕ → Place → Place → Phrase Proc
 multiply_two_phrase signed w p register first second = do
   a ← value_phrase w p first
   b ← value_phrase w p second

@@ -13,8 +13,8 @@ use Rattle.m386_access.specs.After.{len_of, register_at, with_register_at, with_
 use Rattle.m386_access.specs.Modify.{modify_phrase}
 use Rattle.m386_access.specs.Operands.{value_phrase, on_one, on_two, on_three}
 use Rattle.m386_access.specs.declared.operands.Manner.{Manner}
-use Rattle.m386_access.specs.declared.operands.Operand.{Operand}
-use Rattle.m386_access.specs.declared.operands.Operand.TheVariants.{Register, Number, Memory, Other}
+use Rattle.m386_access.specs.declared.operands.Place.{Place}
+use Rattle.m386_access.specs.declared.operands.Place.TheVariants.{Register, Number, Memory, Other}
 use Rattle.m386_access.specs.declared.operands.Operands.{Operands}
 use Rattle.m386_alu.specs.declared.arithmetic.AluOp.TheVariants as ops
 use Rattle.m386_alu.specs.declared.shifts.ShiftOp.TheVariants as shifts
@@ -64,7 +64,7 @@ put_found w p register found = with_register_at w (with_flags p found.1) registe
 
 -- An operand changed, and the flags after it.
 -- Source: Intel 80386 PRM 3.2, 3.4; #UD: docs/DECISIONS.md, "Operations that aren't built"
-unfoldable pub change_phrase : Change → Manner → Proc → Operand → Phrase Proc
+unfoldable pub change_phrase : Change → Manner → Proc → Place → Phrase Proc
 change_phrase change m p (Register register) = Done (put_found m.width p register (changed change m.width (register_at m.width p register) p.eflags))
 change_phrase change m p (Memory a) = change_memory_phrase change m p (segment_number a.seg a.base) (offset_of p a)
 change_phrase change m p (Number number) = Faults undefined_opcode_of

@@ -9,7 +9,7 @@ use crate::update::{change_memory, change_operand};
 use m386_access::address::address;
 use m386_access::after::{len_of, register_at, with_flags};
 use m386_access::modify::inspect;
-use m386_access::operands::{Manner, Operand, Operands, value};
+use m386_access::operands::{Manner, Operands, Place, value};
 use m386_alu::bit_tests::BitOp;
 use m386_alu::width::{bits_of, has_sign, max_of};
 use m386_base::bus::Bus;
@@ -96,7 +96,7 @@ fn register_bit<B: Bus>(
     manner: Manner,
     p: &Proc,
     register: u8,
-    second: Operand,
+    second: Place,
     bus: &mut B,
 ) -> Result<Proc, Break>
     requires free { (B.view bus.old).kept ≡ false }
@@ -108,7 +108,7 @@ fn register_bit<B: Bus>(
         Change::Bit(op, k),
         manner,
         p,
-        Operand::Register(register),
+        Place::Register(register),
         bus,
     )
 }
@@ -120,7 +120,7 @@ fn bit_string<B: Bus>(
     manner: Manner,
     p: &Proc,
     a: &Addr,
-    second: Operand,
+    second: Place,
     bus: &mut B,
 ) -> Result<Proc, Break>
     requires free { (B.view bus.old).kept ≡ false }
@@ -129,7 +129,7 @@ fn bit_string<B: Bus>(
 {
     let (seg, offset) = address(p, a);
     match second {
-        Operand::Register(register) => {
+        Place::Register(register) => {
             let k = register_at(manner.width, p, register);
             memory_bit(
                 op,
@@ -141,8 +141,8 @@ fn bit_string<B: Bus>(
                 bus,
             )
         }
-        Operand::Number(number) => memory_bit(op, manner, p, seg, offset, number, bus),
-        Operand::Memory(_) | Operand::Other => Err(Break::Fault(undefined_opcode())),
+        Place::Number(number) => memory_bit(op, manner, p, seg, offset, number, bus),
+        Place::Memory(_) | Place::Other => Err(Break::Fault(undefined_opcode())),
     }
 }
 
@@ -152,8 +152,8 @@ fn bit_of<B: Bus>(
     op: BitOp,
     manner: Manner,
     p: &Proc,
-    first: Operand,
-    second: Operand,
+    first: Place,
+    second: Place,
     bus: &mut B,
 ) -> Result<Proc, Break>
     requires free { (B.view bus.old).kept ≡ false }
@@ -161,9 +161,9 @@ fn bit_of<B: Bus>(
     ensures free { (B.view bus.new).kept ≡ false }
 {
     match first {
-        Operand::Register(register) => register_bit(op, manner, p, register, second, bus),
-        Operand::Memory(a) => bit_string(op, manner, p, &a, second, bus),
-        Operand::Number(_) | Operand::Other => Err(Break::Fault(undefined_opcode())),
+        Place::Register(register) => register_bit(op, manner, p, register, second, bus),
+        Place::Memory(a) => bit_string(op, manner, p, &a, second, bus),
+        Place::Number(_) | Place::Other => Err(Break::Fault(undefined_opcode())),
     }
 }
 

@@ -8,7 +8,7 @@ use crate::change::low;
 use m386_access::access::read;
 use m386_access::address::address;
 use m386_access::after::{len_of, register_at};
-use m386_access::operands::{Manner, Operand, Operands};
+use m386_access::operands::{Manner, Operands, Place};
 use m386_alu::width::has_sign;
 use m386_base::ask::Role;
 use m386_base::bus::Bus;
@@ -103,7 +103,7 @@ pub(crate) fn bound<B: Bus>(
     ensures free { (B.view bus.new).kept ≡ false }
 {
     match operands {
-        Operands::Two(Operand::Register(register), Operand::Memory(a)) => {
+        Operands::Two(Place::Register(register), Place::Memory(a)) => {
             let (seg, offset) = address(p, &a);
             check_bounds(manner.width, p, register, seg, offset, bus)
         }

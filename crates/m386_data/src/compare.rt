@@ -6,7 +6,7 @@ ghost use Rattle.m386_data.specs.Compare.{comparison_of, comparison_phrase, comp
 use crate::bound::bound;
 use crate::change::{Change, apply, low};
 use m386_access::after::{with_flags, with_register_at};
-use m386_access::operands::{Manner, Operand, Operands, value};
+use m386_access::operands::{Manner, Operands, Place, value};
 use m386_alu::arithmetic::AluOp;
 use m386_base::bus::Bus;
 use m386_base::exception::undefined_opcode;
@@ -112,7 +112,7 @@ fn scan_bits<B: Bus>(
     ensures free { (B.view bus.new).kept ≡ false }
 {
     match operands {
-        Operands::Two(Operand::Register(register), source) => {
+        Operands::Two(Place::Register(register), source) => {
             let n = value(manner.width, p, source, bus)?;
             Ok(scanned(scan, manner.width, p, register, low(manner.width, n)))
         }

@@ -1,15 +1,15 @@
 //! The operations of this crate, by groups.
 ghost use Rattle.std.specs.Prelude.{◌≡◌, false, OnErr};
 ghost use Rattle.m386_base.specs.Phrase.{Performs, it};
-ghost use Rattle.m386_data.specs.Exec.{takes, work_phrase, exec_phrase};
+ghost use Rattle.m386_data.specs.Exec.{takes, action_phrase, exec_phrase};
 
+use crate::action::{Action, action_of};
 use crate::alone::done_alone;
 use crate::bit_strings::bit_test;
 use crate::compare::perform_comparison;
 use crate::moves::perform_moves;
 use crate::products::perform_products;
 use crate::update::perform_update;
-use crate::work::{Work, work_of};
 use m386_access::operands::{Manner, Operands, are_general, manner_of, operands_of};
 use m386_base::bus::Bus;
 use m386_base::exception::undefined_opcode;
@@ -22,29 +22,29 @@ use m386_state::proc::Proc;
 pub fn takes(op: &Op) -> bool
     ensures { result ≡ takes op.now }
 {
-    work_of(op.name).is_some() && are_general(operands_of(op))
+    action_of(op.name).is_some() && are_general(operands_of(op))
 }
 
 /// One case for each group.
 #[tactic(auto, using(m386_base::proofs::Phrases::calls))]
 fn perform<B: Bus>(
-    work: Work,
+    action: Action,
     manner: Manner,
     operands: Operands,
     p: &Proc,
     bus: &mut B,
 ) -> Result<Proc, Break>
     requires free { (B.view bus.old).kept ≡ false }
-    ensures cycles { Performs (work_phrase work manner operands p.now) (B.view bus.old) (B.view bus.new) it result }
+    ensures cycles { Performs (action_phrase action manner operands p.now) (B.view bus.old) (B.view bus.new) it result }
     ensures free { (B.view bus.new).kept ≡ false }
 {
-    match work {
-        Work::Update(update) => perform_update(update, manner, operands, p, bus),
-        Work::Comparison(comparison) => perform_comparison(comparison, manner, operands, p, bus),
-        Work::Products(products) => perform_products(products, manner, operands, p, bus),
-        Work::BitTest(op) => bit_test(op, manner, operands, p, bus),
-        Work::Moves(moves) => perform_moves(moves, manner, operands, p, bus),
-        Work::Alone(alone) => Ok(done_alone(alone, manner.width, p)),
+    match action {
+        Action::Update(update) => perform_update(update, manner, operands, p, bus),
+        Action::Comparison(comparison) => perform_comparison(comparison, manner, operands, p, bus),
+        Action::Products(products) => perform_products(products, manner, operands, p, bus),
+        Action::BitTest(op) => bit_test(op, manner, operands, p, bus),
+        Action::Moves(moves) => perform_moves(moves, manner, operands, p, bus),
+        Action::Alone(alone) => Ok(done_alone(alone, manner.width, p)),
     }
 }
 
@@ -57,9 +57,9 @@ pub fn exec<B: Bus>(p: &mut Proc, op: &Op, bus: &mut B) -> Result<(), Break>
     ensures free { (B.view bus.new).kept ≡ false }
     ensures before { OnErr result (p.new ≡ p.old) }
 {
-    let Some(work) = work_of(op.name) else {
+    let Some(action) = action_of(op.name) else {
         return Err(Break::Fault(undefined_opcode()));
     };
-    *p = perform(work, manner_of(op), operands_of(op), p, bus)?;
+    *p = perform(action, manner_of(op), operands_of(op), p, bus)?;
     Ok(())
 }

@@ -1,6 +1,7 @@
 //! Moves, arithmetic, shifts and tests of bits, on registers and memory.
 #![tactic(auto)]
 
+pub mod action;
 pub mod alone;
 pub mod bit_strings;
 pub mod bound;
@@ -13,4 +14,3 @@ pub mod products;
 #[cfg(test)]
 mod tests;
 pub mod update;
-pub mod work;

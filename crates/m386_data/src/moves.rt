@@ -10,7 +10,7 @@ use m386_access::address::{address, offset};
 use m386_access::after::{len_of, register_at, with_register_at};
 use m386_access::conditions::{Condition, Relation, meets, unless, when};
 use m386_access::modify::modify;
-use m386_access::operands::{Manner, Operand, Operands, put, value};
+use m386_access::operands::{Manner, Operands, Place, put, value};
 use m386_access::registers::EAX;
 use m386_alu::width::{has_sign, max_of};
 use m386_base::ask::Role;
@@ -164,7 +164,7 @@ fn load_address<B: Bus>(
     ensures free { (B.view bus.new).kept ≡ false }
 {
     match operands {
-        Operands::Two(first, Operand::Memory(a)) => put(manner.width, p, first, offset(p, &a), bus),
+        Operands::Two(first, Place::Memory(a)) => put(manner.width, p, first, offset(p, &a), bus),
         _ => Err(Break::Fault(undefined_opcode())),
     }
 }
@@ -195,7 +195,7 @@ fn swapped(width: Width, p: &Proc, a: u8, b: u8) -> Proc
 fn exchange_with<B: Bus>(
     width: Width,
     p: &Proc,
-    operand: Operand,
+    operand: Place,
     register: u8,
     bus: &mut B,
 ) -> Result<Proc, Break>
@@ -204,9 +204,9 @@ fn exchange_with<B: Bus>(
     ensures free { (B.view bus.new).kept ≡ false }
 {
     match operand {
-        Operand::Memory(a) => swap(width, p, &a, register, bus),
-        Operand::Register(other) => Ok(swapped(width, p, other, register)),
-        Operand::Number(_) | Operand::Other => Err(Break::Fault(undefined_opcode())),
+        Place::Memory(a) => swap(width, p, &a, register, bus),
+        Place::Register(other) => Ok(swapped(width, p, other, register)),
+        Place::Number(_) | Place::Other => Err(Break::Fault(undefined_opcode())),
     }
 }
 
@@ -223,7 +223,7 @@ fn exchange<B: Bus>(
     ensures free { (B.view bus.new).kept ≡ false }
 {
     match operands {
-        Operands::Two(first, Operand::Register(register)) => exchange_with(
+        Operands::Two(first, Place::Register(register)) => exchange_with(
             manner.width,
             p,
             first,
@@ -255,7 +255,7 @@ fn translate<B: Bus>(operands: Operands, p: &Proc, bus: &mut B) -> Result<Proc, 
     ensures free { (B.view bus.new).kept ≡ false }
 {
     match operands {
-        Operands::One(Operand::Memory(a)) => table_byte(p, &a, bus),
+        Operands::One(Place::Memory(a)) => table_byte(p, &a, bus),
         _ => Err(Break::Fault(undefined_opcode())),
     }
 }

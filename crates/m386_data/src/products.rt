@@ -9,7 +9,7 @@ ghost use Rattle.m386_data.specs.Products.{products_of, products_phrase, upper_r
 
 use crate::change::low;
 use m386_access::after::{register_at, with_flags, with_register_at};
-use m386_access::operands::{Manner, Operand, Operands, value};
+use m386_access::operands::{Manner, Operands, Place, value};
 use m386_access::registers::{AH, EAX, EDX};
 use m386_alu::division::div;
 use m386_alu::products::mul;
@@ -89,7 +89,7 @@ fn multiply_accumulator<B: Bus>(
     signed: bool,
     width: Width,
     p: &Proc,
-    operand: Operand,
+    operand: Place,
     bus: &mut B,
 ) -> Result<Proc, Break>
     requires free { (B.view bus.old).kept ≡ false }
@@ -107,8 +107,8 @@ fn multiply_two<B: Bus>(
     width: Width,
     p: &Proc,
     register: u8,
-    first: Operand,
-    second: Operand,
+    first: Place,
+    second: Place,
     bus: &mut B,
 ) -> Result<Proc, Break>
     requires free { (B.view bus.old).kept ≡ false }
@@ -135,18 +135,18 @@ fn multiply<B: Bus>(
 {
     match operands {
         Operands::One(first) => multiply_accumulator(signed, manner.width, p, first, bus),
-        Operands::Two(Operand::Register(register), second) => {
+        Operands::Two(Place::Register(register), second) => {
             multiply_two(
                 signed,
                 manner.width,
                 p,
                 register,
-                Operand::Register(register),
+                Place::Register(register),
                 second,
                 bus,
             )
         }
-        Operands::Three(Operand::Register(register), second, third) => {
+        Operands::Three(Place::Register(register), second, third) => {
             multiply_two(signed, manner.width, p, register, second, third, bus)
         }
         _ => Err(Break::Fault(undefined_opcode())),

@@ -7,7 +7,7 @@ use crate::change::{Change, apply};
 use m386_access::address::address;
 use m386_access::after::{len_of, register_at, with_flags, with_register_at};
 use m386_access::modify::modify;
-use m386_access::operands::{Manner, Operand, Operands, value};
+use m386_access::operands::{Manner, Operands, Place, value};
 use m386_alu::arithmetic::AluOp;
 use m386_alu::shifts::ShiftOp;
 use m386_base::bus::Bus;
@@ -103,7 +103,7 @@ pub(crate) fn change_operand<B: Bus>(
     change: Change,
     manner: Manner,
     p: &Proc,
-    operand: Operand,
+    operand: Place,
     bus: &mut B,
 ) -> Result<Proc, Break>
     requires free { (B.view bus.old).kept ≡ false }
@@ -111,16 +111,16 @@ pub(crate) fn change_operand<B: Bus>(
     ensures free { (B.view bus.new).kept ≡ false }
 {
     match operand {
-        Operand::Register(register) => {
+        Place::Register(register) => {
             let old = register_at(manner.width, p, register);
             let found = apply(change, manner.width, old, p.eflags);
             Ok(put_found(manner.width, p, register, found))
         }
-        Operand::Memory(a) => {
+        Place::Memory(a) => {
             let (seg, offset) = address(p, &a);
             change_memory(change, manner, p, seg, offset, bus)
         }
-        Operand::Number(_) | Operand::Other => Err(Break::Fault(undefined_opcode())),
+        Place::Number(_) | Place::Other => Err(Break::Fault(undefined_opcode())),
     }
 }
 

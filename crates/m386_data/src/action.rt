@@ -1,6 +1,6 @@
 //! What the operation of each name does, by groups.
 ghost use Rattle.std.specs.Prelude.{◌≡◌};
-ghost use Rattle.m386_data.specs.Work.{first_work, work_of};
+ghost use Rattle.m386_data.specs.Action.{first_action, action_of};
 
 use crate::alone::{Alone, alone_of};
 use crate::bit_strings::bit_op_of;
@@ -13,7 +13,7 @@ use m386_opmap::name::Name;
 
 /// What an operation does, by groups.
 #[derive(Clone, Copy)]
-pub enum Work {
+pub enum Action {
     /// It changes one operand, which is read and written.
     Update(Update),
     /// It reads operands for their flags, looks for a bit, or tests bounds.
@@ -24,47 +24,47 @@ pub enum Work {
     BitTest(BitOp),
     /// A move or an exchange.
     Moves(Moves),
-    /// Work without operands.
+    /// An operation without operands.
     Alone(Alone),
 }
 
-/// The work of the group that has it. A name is in one group at most.
-fn first_work(
+/// The action of the group that has it. A name is in one group at most.
+fn first_action(
     update: Option<Update>,
     comparison: Option<Comparison>,
     products: Option<Products>,
     bit: Option<BitOp>,
     moves: Option<Moves>,
     alone: Option<Alone>,
-) -> Option<Work>
-    ensures { result ≡ first_work update comparison products bit moves alone }
+) -> Option<Action>
+    ensures { result ≡ first_action update comparison products bit moves alone }
 {
     if let Some(update) = update {
-        return Some(Work::Update(update));
+        return Some(Action::Update(update));
     }
     if let Some(comparison) = comparison {
-        return Some(Work::Comparison(comparison));
+        return Some(Action::Comparison(comparison));
     }
     if let Some(products) = products {
-        return Some(Work::Products(products));
+        return Some(Action::Products(products));
     }
     if let Some(bit) = bit {
-        return Some(Work::BitTest(bit));
+        return Some(Action::BitTest(bit));
     }
     if let Some(moves) = moves {
-        return Some(Work::Moves(moves));
+        return Some(Action::Moves(moves));
     }
     match alone {
-        Some(alone) => Some(Work::Alone(alone)),
+        Some(alone) => Some(Action::Alone(alone)),
         None => None,
     }
 }
 
 /// What the operation of a name does, where it is one of this crate's.
-pub fn work_of(name: Name) -> Option<Work>
-    ensures { result ≡ work_of name }
+pub fn action_of(name: Name) -> Option<Action>
+    ensures { result ≡ action_of name }
 {
-    first_work(
+    first_action(
         update_of(name),
         comparison_of(name),
         products_of(name),
