@@ -6,6 +6,11 @@ use Rattle.std.specs.Prelude.{ℕ}
 abbrev pub eax : ℕ
 eax = 0
 
+-- ECX.
+-- Source: Intel 80386 PRM 2.3.1, 17.2.1
+abbrev pub ecx : ℕ
+ecx = 1
+
 -- EDX, and its low parts DX and DL.
 -- Source: Intel 80386 PRM 2.3.1, 17.2.1
 abbrev pub edx : ℕ
@@ -23,3 +28,11 @@ ah = 4
 -- Source: Intel 80386 PRM 2.3.1, 17.2.1
 abbrev pub ebp : ℕ
 ebp = 5
+
+-- ESI and EDI.
+-- Source: Intel 80386 PRM 2.3.1, 17.2.1
+abbrev pub esi : ℕ
+esi = 6
+
+abbrev pub edi : ℕ
+edi = 7

@@ -2,6 +2,8 @@
 
 /// The number of EAX, and of its low parts AX and AL.
 pub const EAX: u8 = 0;
+/// The number of ECX.
+pub const ECX: u8 = 1;
 /// The number of EDX, and of its low parts DX and DL.
 pub const EDX: u8 = 2;
 /// The number of ESP.
@@ -10,3 +12,7 @@ pub const ESP: u8 = 4;
 pub const AH: u8 = 4;
 /// The number of EBP.
 pub const EBP: u8 = 5;
+/// The number of ESI.
+pub const ESI: u8 = 6;
+/// The number of EDI.
+pub const EDI: u8 = 7;
