@@ -101,7 +101,13 @@ fn image_of(alloc: Global, code: &[u8]) -> Result<Vec<u8>, Fail> {
 }
 
 /// A clean report with these cycles, of a processor whose line has these words before and behind the other registers.
-fn report_of(alloc: Global, cycles: &[&str], begin: &str, pending: &str) -> Result<String, Fail> {
+fn report_of(
+    alloc: Global,
+    cycles: &[&str],
+    begin: &str,
+    others: &str,
+    pending: &str,
+) -> Result<String, Fail> {
     let mut text = String::from_str(alloc, "m386 report 1\nmemory 00004000 cpus 1\n")?;
     for cycle in cycles {
         text.push_str(cycle)?;
@@ -111,7 +117,7 @@ fn report_of(alloc: Global, cycles: &[&str], begin: &str, pending: &str) -> Resu
         "p 0 ",
         begin,
         " ",
-        OTHERS,
+        others,
         " pending ",
         pending,
         "\nclean\n",
@@ -210,9 +216,7 @@ fn reports_the_cycles_of_a_run(rt: HostRuntime) -> Result<(), Fail> {
             "an operation that isn't built",
             &[0xe5, 0x78, 0x56, 0x34, 0x12, 0xf4],
             "--steps=1",
-            &[
-                "c 0 m r . fetch 00 00001000 f 345678e5",
-            ],
+            &["c 0 m r . fetch 00 00001000 f 345678e5"],
             "running steps 1 eip 00001000 efl 00000002 eax 00000000",
             "06 -",
         ),
@@ -229,10 +233,53 @@ fn reports_the_cycles_of_a_run(rt: HostRuntime) -> Result<(), Fail> {
         let image = image_of(rt.alloc(), code)?;
         let words = ["run", "--order=round", steps];
         let came = call(rt.alloc(), &words, image, 16, NO_FAILURE)?;
-        let want = report_of(rt.alloc(), cycles, begin, pending)?;
+        let want = report_of(rt.alloc(), cycles, begin, OTHERS, pending)?;
         assert_eq!(rt; came.status, Status::Done, "{case}");
         assert_eq!(rt; came.out.bytes(), want.as_bytes(), "{case}");
         assert!(rt; came.err.bytes().is_empty(), "{case}");
+    }
+    Ok(())
+}
+
+#[test]
+fn reports_each_turn_of_a_repetition(rt: HostRuntime) -> Result<(), Fail> {
+    // MOV ECX, 2; MOV EDI, 2000h; REP STOSD; HLT: two stores take three turns, the last of which only moves on.
+    let code = &[
+        0xb9, 0x02, 0x00, 0x00, 0x00, 0xbf, 0x00, 0x20, 0x00, 0x00, 0xf3, 0xab, 0xf4,
+    ];
+    let cycles = [
+        "c 0 m r . fetch 00 00001000 f 000002b9",
+        "c 0 m r . fetch 00 00001004 f 2000bf00",
+        "c 0 m r . fetch 00 00001004 f 2000bf00",
+        "c 0 m r . fetch 00 00001008 f abf30000",
+        "c 0 m r . fetch 00 00001008 f abf30000",
+        "c 0 m w . data 00 00002000 f 00000000",
+        "c 0 m r . fetch 00 00001008 f abf30000",
+        "c 0 m w . data 00 00002004 f 00000000",
+        "c 0 m r . fetch 00 00001008 f abf30000",
+        "c 0 m r . fetch 00 0000100c f 000000f4",
+    ];
+    let others =
+        "ecx 00000000 edx 00000000 ebx 00000000 esp 00000000 ebp 00000000 esi 00000000 edi 00002008 es 0010 cs 0008 ss 0010 ds 0010 fs 0010 gs 0010 ldt 0000 tr 0000 cr0 00000001";
+    for (steps, made, begin) in [
+        (
+            "--steps=6",
+            10,
+            "halted steps 6 eip 0000100d efl 00000002 eax 00000000",
+        ),
+        (
+            "--steps=4",
+            8,
+            "running steps 4 eip 0000100a efl 00000002 eax 00000000",
+        ),
+    ] {
+        let image = image_of(rt.alloc(), code)?;
+        let words = ["run", "--order=round", steps];
+        let came = call(rt.alloc(), &words, image, 16, NO_FAILURE)?;
+        let want = report_of(rt.alloc(), &cycles[..made], begin, others, "none")?;
+        assert_eq!(rt; came.status, Status::Done, "{steps}");
+        assert_eq!(rt; came.out.bytes(), want.as_bytes(), "{steps}");
+        assert!(rt; came.err.bytes().is_empty(), "{steps}");
     }
     Ok(())
 }

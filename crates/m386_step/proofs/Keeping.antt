@@ -24,6 +24,8 @@ use Rattle.m386_state.specs.declared.segment.TableReg.{TableReg}
 use Rattle.m386_access.specs.After.{moved}
 use Rattle.m386_access.specs.Ordinary.{Ordinary, Reads, Writes, Accesses, is_read_role, is_write_role, has_role, is_nested, popped, Keeps, KeepsRan}
 use Rattle.m386_access.specs.declared.ran.Ran.{Ran}
+use Rattle.m386_string.specs.Element.{element_of}
+use Rattle.m386_string.specs.Repetition.{is_followed, behind_turn}
 use Rattle.m386_base.proofs.Matched.{cycle_matched}
 use Rattle.m386_base.proofs.Plain.{plain_obeys}
 use Rattle.m386_step.specs.declared.fetch.Reader.{Reader}
@@ -148,13 +150,23 @@ calm_ends P Q ts (Faults f) k h = tt
 calm_ends P Q ts (Begins m t) k h = calm_ends P Q ts t k h
 calm_ends P Q ts (Asks q c) k h = λ t m. ((h t m).0, calm_ends P Q (t ∷ ts) (c (answer_of t)) k (h t m).1)
 
+-- behind a turn whose repetition may go on
+keeps_behind : (op : Op) (p : Proc) (us : List Ask) (after : Proc) → KeepsTask p us after → KeepsTask p us (behind_turn op p after)
+unfolding behind_turn
+keeps_behind op p us after k = go (is_followed (element_of op.name) op.rep p after)
+  where
+    go : (b : Bool) → KeepsTask p us (cond b (moved after p.eip) after)
+    go true = record { tr = k.tr; gdtr = k.gdtr; nested = k.nested }
+    go false = k
+
 calm_instruction : (p : Proc) → Calm (λ us (r : Ran). KeepsTask p us r.after) [] (instruction_phrase p)
 unfolding instruction_phrase
 calm_instruction p =
     obeys_then NoSwitch with_cycle Anything (λ us (r : Ran). KeepsTask p us r.after) AnyFault [] (decode_phrase (first_reader p)) _ (calm_decode (first_reader p) [])
     (λ us d o.
     let begun : Proc = moved p ((p.eip + d.len) % 2 ^ 32) in
-    calm_ends (λ vs (r : Ran). KeepsTask begun vs r.after) (λ vs (r : Ran). KeepsTask p vs r.after) us (operation_phrase d.op begun) (λ vs r k. record { tr = k.tr; gdtr = k.gdtr; nested = k.nested }) (calm_operation d.op begun us))
+    obeys_then NoSwitch with_cycle (λ vs (r : Ran). KeepsTask begun vs r.after) (λ vs (r : Ran). KeepsTask p vs r.after) AnyFault us (operation_phrase d.op begun) _ (calm_operation d.op begun us)
+    (λ vs r k. keeps_behind d.op p vs r.after (record { tr = k.tr; gdtr = k.gdtr; nested = k.nested })))
 
 -- a phrase, and what follows from its end and from its fault
 calm_either : {A B : Type 0} (P : List Ask → A → Type 0) (Q : List Ask → B → Type 0) (ts : List Ask) (t : Phrase A) (f : A → Phrase B) (g : Fault → Phrase B) → Calm P ts t → ((us : List Ask) (a : A) → P us a → Calm Q us (f a)) → ((us : List Ask) (x : Fault) → Calm Q us (g x)) → Calm Q ts (either t f g)

@@ -11,13 +11,13 @@ use Rattle.m386_step.specs.Instruction.{operation_phrase, instruction_phrase}
 use Rattle.m386_step.proofs.Ordinary.{none_operation}
 use Rattle.m386_step.specs.Once.{IsAnew, with_fetched, FetchesOnce}
 use Rattle.m386_step.specs.Step.{is_due, without_event, running_phrase, turn_phrase, step_phrase}
-use Rattle.m386_step.proofs.Anew.{Once, AnyGroups, none_once, once_either}
+use Rattle.m386_step.proofs.Anew.{Once, AnyGroups, none_once, none_then, once_either}
 use Rattle.m386_step.proofs.Rising.{once_decode}
 
 once_instruction : (p : Proc) → Once AnyGroups [] (instruction_phrase p)
 unfolding instruction_phrase
 once_instruction p =
-    obeys_then IsAnew with_fetched AnyGroups AnyGroups AnyGroups [] (decode_phrase (first_reader p)) _ (once_decode (first_reader p)) (λ later d h. none_once later (operation_phrase d.op _) (none_operation d.op _))
+    obeys_then IsAnew with_fetched AnyGroups AnyGroups AnyGroups [] (decode_phrase (first_reader p)) _ (once_decode (first_reader p)) (λ later d h. none_once later _ (none_then (operation_phrase d.op _) _ (none_operation d.op _) (λ r. tt)))
 
 once_turn : (m : Mode) (p : Proc) → Once AnyGroups [] (turn_phrase m p)
 unfolding running_phrase

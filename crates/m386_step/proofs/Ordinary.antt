@@ -18,6 +18,8 @@ use Rattle.m386_data.proofs.Plain as data_laws
 use Rattle.m386_data.specs.Exec as data_specs
 use Rattle.m386_gates.proofs.Plain as gates_laws
 use Rattle.m386_gates.specs.Exec as gates_specs
+use Rattle.m386_string.proofs.Plain as string_laws
+use Rattle.m386_string.specs.Exec as string_specs
 use Rattle.m386_system.proofs.Plain as system_laws
 use Rattle.m386_system.specs.Exec as system_specs
 use Rattle.m386_step.specs.Instruction.{operation_phrase}
@@ -39,8 +41,9 @@ unfolding operation_phrase
 plain_operation op p =
     plain_if 8 (Ordinary p.gdtr) (KeepsRan p) [] (data_specs.takes op) _ _ (plain_plainly 8 8 p _ refl (data_laws.exec_plain op p))
     (plain_if 8 (Ordinary p.gdtr) (KeepsRan p) [] (gates_specs.takes op) _ _ (within 0 8 p _ refl (gates_laws.exec_plain op p))
+    (plain_if 8 (Ordinary p.gdtr) (KeepsRan p) [] (string_specs.takes op) _ _ (plain_plainly 4 8 p _ refl (string_laws.exec_plain op p))
     (plain_if 8 (Ordinary p.gdtr) (KeepsRan p) [] (system_specs.takes op) _ _ (plain_plainly 0 8 p _ refl (system_laws.exec_plain op p))
-    (plain_faults 8 (Ordinary p.gdtr) (KeepsRan p) [] _)))
+    (plain_faults 8 (Ordinary p.gdtr) (KeepsRan p) [] _))))
 
 -- It makes few cycles.
 pub short_operation : (op : Op) (p : Proc) → AtMost 8 (operation_phrase op p)

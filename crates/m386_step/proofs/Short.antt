@@ -45,7 +45,7 @@ short_decode r = short_further 15 [] r
 
 short_instruction : (p : Proc) → AtMost 23 (instruction_phrase p)
 unfolding instruction_phrase
-short_instruction p = at_most_then 15 8 _ _ (short_decode (first_reader p)) (λ d. short_operation d.op _)
+short_instruction p = at_most_then 15 8 _ _ (short_decode (first_reader p)) (λ d. at_most_then 8 0 _ _ (short_operation d.op _) (λ r. tt))
 
 short_running : (p : Proc) → AtMost 192 (running_phrase p)
 unfolding running_phrase

@@ -15,6 +15,8 @@ use m386_data::exec as data;
 use m386_gates::exec as gates;
 use m386_opmap::op::Op;
 use m386_state::proc::Proc;
+use m386_string::exec as string;
+use m386_string::repetition::behind_turn;
 use m386_system::exec as system;
 
 /// An operation, with EIP behind it, by the first crate that takes it. `Ok(Some(fault))`: the fault is seen in the new state.
@@ -33,6 +35,10 @@ fn perform<B: Bus>(p: &mut Proc, op: &Op, bus: &mut B) -> Result<Option<Fault>, 
     if gates::takes(op) {
         return gates::attempt(p, op, bus);
     }
+    if string::takes(op) {
+        string::exec(p, op, bus)?;
+        return Ok(None);
+    }
     if system::takes(op) {
         system::exec(p, op, bus)?;
         return Ok(None);
@@ -40,7 +46,7 @@ fn perform<B: Bus>(p: &mut Proc, op: &Op, bus: &mut B) -> Result<Option<Fault>, 
     Err(Break::Fault(undefined_opcode()))
 }
 
-/// The instruction at EIP. One that isn't built is #UD, behind its last byte.
+/// The instruction at EIP, or a turn of one that is repeated. One that isn't built is #UD, behind its last byte.
 #[tactic(auto, using(m386_base::proofs::Phrases::calls), unfolding(crate::specs::Instruction::instruction_phrase))]
 pub fn instruction<B: Bus>(p: &Proc, bus: &mut B) -> Result<Ran, Break>
     requires free { (B.view bus.old).kept ≡ false }
@@ -50,5 +56,8 @@ pub fn instruction<B: Bus>(p: &Proc, bus: &mut B) -> Result<Ran, Break>
     let decoded = fetch_operation(reader_at(p), bus)?;
     let mut after = moved(p, p.eip.wrapping_add(decoded.len as u32));
     let fault = perform(&mut after, &decoded.op, bus)?;
-    Ok(Ran { after, fault })
+    Ok(Ran {
+        after: behind_turn(&decoded.op, p, &after),
+        fault,
+    })
 }

@@ -1,5 +1,6 @@
 //! Worked steps: each over a bus of a few bytes, and over every front of the values that it reads.
 mod decoding;
+mod strings;
 
 ghost use Rattle.std.specs.Prelude.{◌≡◌, ◌<◌, ◌≤◌, [], false, length};
 

@@ -82,8 +82,9 @@ scan_element_phrase w p = do
   element ← read_phrase p roles.Operand es (register_of p edi) (len_of w)
   Done (compared w (register_at w p eax) element (past_element w edi p))
 
--- One element. Its source, at ESI, is the operand: a segment prefix changes that segment, and none changes ES.
--- Source: Intel 80386 PRM 3.6.2, 2.5.3.2; the operands: docs/DECISIONS.md, "The operands of an operation"
+-- One element. Its source, at ESI, is the operand: a segment prefix changes that segment, and none changes ES. Other operands
+-- are #UD.
+-- Source: Intel 80386 PRM 2.5.3.1, 3.6.2; #UD: docs/DECISIONS.md, "Operations that aren't built"
 abbrev pub element_phrase : Element → Width → Operands → Proc → Phrase Proc
 element_phrase Move w (One (Memory source)) p = move_element_phrase w source p
 element_phrase Compare w (One (Memory source)) p = compare_elements_phrase w source p

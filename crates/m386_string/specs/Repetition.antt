@@ -67,6 +67,6 @@ is_followed None rep before after = false
 
 -- The state behind an operation that led from a state at its instruction to another behind it: EIP is the instruction's again
 -- where a further turn follows.
--- Source: Intel 80386 PRM 3.6.1, 9.3
+-- Source: Intel 80386 PRM 3.6.1, 9.2
 unfoldable pub behind_turn : Op → Proc → Proc → Proc
 behind_turn op before after = if is_followed (element_of op.name) op.rep before after then moved after before.eip else after
