@@ -5,9 +5,9 @@ ghost use Rattle.m386_alu.specs.Flags.{KeepsOthers};
 ghost use Rattle.m386_alu.specs.Width.{bits};
 
 use crate::flags::put_result;
-use m386_base::flags::{Flag, put_flag};
 use crate::shifts::put_sign_change;
 use crate::width::{bits_of, double, max_of};
+use m386_base::flags::{Flag, put_flag};
 use m386_base::number::{Flags, Width};
 
 /// A number after SHLD, and CF: the bit moved out last.

@@ -4,9 +4,9 @@ ghost use Rattle.m386_alu.specs.Flags.{KeepsOthers};
 ghost use Rattle.m386_alu.specs.Products.{product_of, extension, halves_of, mul_of};
 ghost use Rattle.m386_alu.specs.Width.{bits};
 
-use m386_base::flags::{Flag, put_flag};
 use crate::signs::{magnitude, with_sign};
 use crate::width::{bits_of, has_sign, max_of};
+use m386_base::flags::{Flag, put_flag};
 use m386_base::number::{Flags, Width};
 
 /// The product of two numbers read with a sign, as a number of twice their width.

@@ -6,9 +6,9 @@ ghost use Rattle.m386_alu.specs.declared.shifts.ShiftOp.TheVariants.{Shl, Shr, S
 ghost use Rattle.m386_alu.specs.Width.{bits};
 
 use crate::flags::{carry, put_result};
-use m386_base::flags::{Flag, put_flag};
 use crate::rotates::{rotate_left, rotate_left_with_carry, rotate_right, rotate_right_with_carry};
 use crate::width::{bits_of, has_sign, max_of};
+use m386_base::flags::{Flag, put_flag};
 use m386_base::number::{Flags, Width};
 
 /// A shift or rotate, in the order of the opcodes.

@@ -4,8 +4,8 @@ ghost use Rattle.m386_alu.specs.Sums.{sum_of, difference_of};
 ghost use Rattle.m386_alu.specs.Width.{bits, signed, is_signed_number};
 
 use crate::flags::put_result;
-use m386_base::flags::{Flag, put_flag};
 use crate::width::{has_sign, max_of};
+use m386_base::flags::{Flag, put_flag};
 use m386_base::number::{Flags, Width};
 
 /// Whether bit 4 of three numbers has an odd number of ones: there a carry or borrow out of the low four bits shows.

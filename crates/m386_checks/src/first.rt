@@ -5,7 +5,7 @@ ghost use Rattle.m386_checks.specs.Table.{exception_of, error_code_of, seg_of, f
 
 use crate::facts::{Facts, Fail, SwitchKind};
 use crate::holds::{holds, selector};
-use crate::table::{ROWS, Raises, Check, Subject};
+use crate::table::{Check, ROWS, Raises, Subject};
 use m386_base::exception::Exception;
 use m386_base::segments::{CS, DS, ES, FS, GS, SS};
 use m386_desc::selector::error_code;

@@ -414,12 +414,7 @@ fn exchange_is_one_locked_group(rt: HostRuntime) {
             before: p,
             code: &[0x87, 0xc5, 0, 0, 0, 0, 0, 0],
             cycles: &[fetch(0x1000, 0xc587)],
-            after: loaded(
-                &loaded(&p, 0x1002, 0, 0x5051_5253),
-                0x1002,
-                5,
-                0xa0a1_a2a3,
-            ),
+            after: loaded(&loaded(&p, 0x1002, 0, 0x5051_5253), 0x1002, 5, 0xa0a1_a2a3),
         },
     ];
     for case in &cases {
