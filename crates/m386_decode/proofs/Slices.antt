@@ -73,7 +73,3 @@ wants_pauses bytes r (inr v) w = v.1
 
 pub pauses : (bytes : List ℕ) (r : Result Decoded Break) → SliceOutcome bytes r → (r ≡ Err paused) ↔ ((length bytes < 15) × WantsMore bytes)
 pauses bytes r o = (λ e. paused_wants bytes r o e, λ w. wants_pauses bytes r o w)
-
-answered_otherwise : (bytes : List ℕ) (r : Result Decoded Break) → SliceOutcome bytes r → (r ≡ Err paused → ⊥) → IsAnswered bytes r
-answered_otherwise bytes r (inl s) n = s
-answered_otherwise bytes r (inr v) n = absurd (n v.1)

@@ -5,12 +5,6 @@ use Rattle.std.proofs.lemmas.Bool.{cases_Bool, ltb-true, ltb-false}
 use Rattle.std.proofs.lemmas.Bool.Decides.{nat_tests}
 use Rattle.m386_encode.specs.Order.{is_less, is_before}
 
-both : (a b c : Bool) → b ≡ true → c ≡ true → a || b && c ≡ true
-both true b c p q = refl
-both false true true p q = refl
-both false b false p q = cc
-both false false c p q = cc
-
 pub less_self : (xs : List ℕ) → is_less xs xs ≡ false
 unfolding is_less
 less_self [] = refl

@@ -69,12 +69,6 @@ byte_over_below low memory (s ∷ ss) place old h lt =
     let no : covers s place ≡ false = covers_before s place (omega arith) in
     ap (λ (b : Bool). cond b (get_or s.bytes (place - s.addr) 0) (byte_over ss place old)) no ∙ byte_over_below (s.addr + length s.bytes) memory ss place old h.2 (omega arith)
 
-pub length-fill_all : (low : ℕ) (ss : List Section) (memory : List ℕ) → ArePlaced low (length memory) ss → length (fill_all ss memory) ≡ length memory
-length-fill_all low [] memory h = refl
-length-fill_all low (s ∷ ss) memory h =
-    let len = length-fill s.addr s.bytes memory h.1 in
-    length-fill_all (s.addr + length s.bytes) ss (fill s.addr s.bytes memory) (subst (λ (n : ℕ). ArePlaced (s.addr + length s.bytes) n ss) (sym len) h.2) ∙ len
-
 filled_over : (low : ℕ) (ss : List Section) (memory : List ℕ) (place : ℕ) → ArePlaced low (length memory) ss → get_or (fill_all ss memory) place 0 ≡ byte_over ss place (get_or memory place 0)
 unfolding byte_over
 filled_over low [] memory place h = refl

@@ -32,11 +32,6 @@ pub u32_at-drop : (n place : ℕ) (bytes : List ℕ) → u32_at place (drop n by
 unfolding u32_at
 u32_at-drop n place bytes = rw drop-drop refl
 
--- a number that was written is read
-pub u16_at-bytes : (n : ℕ) (rest : List ℕ) → n < 2 ^ 16 → u16_at 0 (u16_bytes n ++ rest) ≡ n
-unfolding u16_at u16_bytes
-u16_at-bytes n rest h = from_le_bytes-to_le_bytes_2 n h
-
 pub u32_at-bytes : (n : ℕ) (rest : List ℕ) → n < 2 ^ 32 → u32_at 0 (u32_bytes n ++ rest) ≡ n
 unfolding u32_at u32_bytes
 u32_at-bytes n rest h = from_le_bytes-to_le_bytes_4 n h

@@ -73,9 +73,6 @@ takes_same bytes s t after rest p q =
 
 -- ---- several
 
-pub takes_none : (bytes : List ℕ) → TakesAll 0 bytes [] bytes
-takes_none bytes = record { count = refl; text = tt; parts = refl }
-
 -- the first of several, and the others
 pub record Splits (n : ℕ) (bytes : List ℕ) (ss : List Section) (rest : List ℕ) : Type 0 where
   pub first : Section
@@ -168,9 +165,6 @@ pub record Walked (i : ℕ) (bytes : List ℕ) (memory : ℕ) (rest : List ℕ) 
   pub takes : TakesAll i bytes sections rest
   pub placed_is : IsTrue placed ↔ ArePlaced 0 memory sections
   pub end_is : end ≡ end_of 0 sections
-
-pub walked_none : (bytes : List ℕ) (memory : ℕ) → Walked 0 bytes memory bytes true 0
-walked_none bytes memory = record { sections = []; takes = takes_none bytes; placed_is = (λ _. tt, λ _. refl); end_is = refl }
 
 pub walked_more : (i : ℕ) (bytes : List ℕ) (memory : ℕ) (rest : List ℕ) (placed : Bool) (end : ℕ) (s : Section) (after : List ℕ) (now : Bool)
     → Walked i bytes memory rest placed end → Takes rest s after → (IsTrue now ↔ (IsTrue placed × (end ≤ s.addr) × (s.addr + length s.bytes ≤ memory))) → Walked (i + 1) bytes memory after now (s.addr + length s.bytes)

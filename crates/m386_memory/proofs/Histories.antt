@@ -98,21 +98,10 @@ IsRecord-push first now new H cpu ask v r i j e k n =
     size-push true e = rw e (SameSize-written first now ask.space (bytes_of ask) r.size)
     size-push false e = rw e r.size
 
--- a group has one value by two rules of places that agree
+-- an aligned group has one value by two rules of places that agree
 pub group_of-same : (byte other : ℕ → ℕ) (addr enables : ℕ) → ((a : ℕ) → byte a ≡ other a) → group_of byte addr enables ≡ group_of other addr enables
 unfolding group_of
 group_of-same byte other addr enables e = rw (e addr, e (addr + 1), e (addr + 2), e (addr + 3)) refl
-
--- a front of a history is a history
-fronts : (first : Contents) (newer older : List Cycle) → WellFormed (newer ++ older) → Consistent first (newer ++ older) → Unsplit (newer ++ older) → WellFormed older × Consistent first older × Unsplit older
-unfolding WellFormed Consistent Unsplit
-fronts first [] older f c u = (f, c, u)
-fronts first (x ∷ newer) older f c u = fronts first newer older f.1 c.1 u.1
-
-pub IsHistory-front : (first : Contents) (H G : List Cycle) → IsHistory first (H ++ G) → IsHistory first H
-IsHistory-front first H G h =
-    let p = fronts first (past G) (past H) (rw (reverse-append H G) at h.formed) (rw (reverse-append H G) at h.consistent) (rw (reverse-append H G) at h.unsplit) in
-    record { formed = p.0; consistent = p.1; unsplit = p.2 }
 
 -- The cycles of one processor, one cycle on.
 pub cycles_of-append : (p : ℕ) (H G : List Cycle) → cycles_of p (H ++ G) ≡ cycles_of p H ++ cycles_of p G
@@ -139,22 +128,6 @@ cycles_of-other p H x e = cycles_of-append p H (x ∷ []) ∙ ap (λ l. cycles_o
     go true h = absurd (e (grind (arith, h)))
     go false h = refl
 
--- what stands at a place, one cycle on
-pub byte_after-push : (c : Contents) (H : List Cycle) (x : Cycle) (s : Space) (a : ℕ) → byte_after c (past (H ++ x ∷ [])) s a ≡ byte_then c x s a (byte_after c (past H) s a)
-unfolding byte_after
-byte_after-push c H x s a = rw (past-push H x) refl
-
--- a read changes no byte
-pub byte_after-read : (c : Contents) (H : List Cycle) (x : Cycle) (s : Space) (a : ℕ) → x.ask.write ≡ false → byte_after c (past (H ++ x ∷ [])) s a ≡ byte_after c (past H) s a
-byte_after-read c H x s a w = byte_after-push c H x s a ∙ go x.ask.write w
-  where
-    go : (b : Bool) → b ≡ false → cond ((b && eqb (space_number x.ask.space) (space_number s)) && holds_byte c s a) (unwrap_or (byte_at_place (bytes_of x.ask) a) (byte_after c (past H) s a)) (byte_after c (past H) s a) ≡ byte_after c (past H) s a
-    go true h = cc
-    go false h = refl
-
 -- the newest cycle's processor, one cycle on
 pub last_cpu-push : (H : List Cycle) (x : Cycle) → last_cpu (past (H ++ x ∷ [])) ≡ Some x.cpu
 last_cpu-push H x = rw (past-push H x) refl
-
--- how a history and its parts by processor grow at the end
-pub ruleset grown = (past-push, last_cpu-push, cycles_of-own, cycles_of-other)

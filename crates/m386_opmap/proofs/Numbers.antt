@@ -12,10 +12,6 @@ small_power (suc (suc zero)) h = omega arith
 small_power (suc (suc (suc zero))) h = omega arith
 small_power (suc (suc (suc (suc n)))) h = absurd (omega arith)
 
--- a number of so many bytes, times 256, and a byte
-pub number_more : (n b r : ℕ) → b < 256 → r < 256 ^ n → b + 256 * r < 256 ^ suc n
-number_more n b r hb hr = rw (pow-suc 256 n) (omega arith)
-
 -- a number of up to three bytes
 pub three_bytes : (n r : ℕ) → n ≤ 3 → r < 256 ^ n → r < 16777216
 three_bytes n r h hr = omega (arith, small_power n h)
