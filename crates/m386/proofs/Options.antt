@@ -44,11 +44,6 @@ pub none_before : (vs : List (List ℕ)) (found : Option (Bor (List ℕ))) (rest
 none_before vs None rest e h = e
 none_before vs (Some v) rest e h = cc
 
--- all values are found
-pub one_found : (vs : List (List ℕ)) (found : Option (Bor (List ℕ))) → vs ≡ value_list found ++ [] → (vs ≡ value_list found) × (length vs ≤ 1)
-one_found vs None e = (e, rw e (omega arith))
-one_found vs (Some v) e = (e, rw e (omega arith))
-
 pub ruleset options = (options_next, options_end)
 
 pub ruleset values = (values_next, values_end)

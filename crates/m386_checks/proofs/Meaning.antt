@@ -60,24 +60,6 @@ context-first f (check ∷ rest) x all h =
     go among here true e = among e
     go among here false e = let same : fail_of f check.0 check.1 ≡ x = cc in rw (← same) here
 
-is_new : Check × ℕ → Bool
-is_new check = not (is_old check.0.context)
-
-new-context : (c : Context) → not (is_old c) ≡ true → c ≡ New
-unfolding is_old
-new-context Old h = cc
-new-context New h = refl
-
-new-first : (f : Facts) (checks : List (Check × ℕ)) (x : Fail) → list_all is_new checks ≡ true → first_false f checks ≡ Some x → x.context ≡ New
-unfolding first_false is_new
-new-first f [] x all h = cc
-new-first f (check ∷ rest) x all h =
-    go (new-first f rest x (and-right _ _ all)) (new-context _ (and-left _ _ all)) (test_holds check.0.test f check.1) h
-  where
-    go : (first_false f rest ≡ Some x → x.context ≡ New) → check.0.context ≡ New → (b : Bool) → cond b (first_false f rest) (Some (fail_of f check.0 check.1)) ≡ Some x → x.context ≡ New
-    go among here true e = among e
-    go among here false e = let same : fail_of f check.0 check.1 ≡ x = cc in rw (← same) here
-
 -- the checks that are made in the old task, and those that are made in the new one
 abbrev old_checks : List (Check × ℕ)
 old_checks = for_segment 0 (slice_range check_table 0 7)
@@ -91,11 +73,6 @@ new_checks =
 pub old_is_first : (f : Facts) (x : Fail) → old_fail_of f ≡ Some x → first_fail_of f ≡ Some x
 unfolding old_fail_of first_fail_of
 old_is_first f x h = first_now f old_checks new_checks x h
-
--- where those of the old task hold, the first that fails is one of the new task
-pub later_is_new : (f : Facts) (x : Fail) → old_fail_of f ≡ None → first_fail_of f ≡ Some x → x.context ≡ New
-unfolding old_fail_of first_fail_of for_segments is_new is_old
-later_is_new f x h e = new-first f new_checks x refl (sym (first_later f old_checks new_checks h) ∙ e)
 
 pub first_none : (f : Facts) (o : Option Fail) → o ≡ first_false f (in_order check_table) → IsNone o ↔ AllChecksHold f
 unfolding AllChecksHold

@@ -1,31 +1,17 @@
 -- How many cycles a step adds to its bus.
-use Rattle.std.proofs.Common.{◌≡◌, ℕ, zero, suc, ◌+◌, ◌<◌, ◌≤◌, true, false, Bool, List, [], ◌∷◌, ◌++◌, length, refl, ap, ◌∙◌, arith}
+use Rattle.std.proofs.Common.{◌≡◌, ◌+◌, ◌<◌, ◌≤◌, List, ◌++◌, length, ap, ◌∙◌, arith}
 use Rattle.std.proofs.lemmas.List.{length-append}
 use Rattle.m386_base.specs.declared.ask.Ask.{Ask}
 use Rattle.m386_base.specs.declared.fault.Stop.{Stop}
 use Rattle.m386_base.specs.declared.fault.Break.TheVariants as breaks
 use Rattle.m386_base.specs.Bus.{BusView}
-use Rattle.m386_base.specs.Laws.{AtMost}
-use Rattle.m386_base.specs.Phrase.{Phrase, Done, Faults, Asks, Begins, follow, Wants, Wrong, Completes, BreaksOff, matches, answer_of}
+use Rattle.m386_base.specs.Phrase.{Completes, BreaksOff}
 use Rattle.m386_base.proofs.Bounds.{at_most_whole}
+use Rattle.m386_base.proofs.Growth.{at_most_wants}
 use Rattle.m386_base.proofs.Phrases.{completes_judged, breaks_judged}
 use Rattle.m386_state.specs.declared.proc.Proc.{Proc}
 use Rattle.m386_step.specs.Step.{step_phrase}
 use Rattle.m386_step.proofs.Short.{short_step}
-
--- a proper front has fewer cycles than its phrase has at most
-at_most_wants : {A : Type 0} (n : ℕ) (t : Phrase A) (q : Ask) (ts : List Ask) → AtMost n t → follow t ts ≡ Wants q → length ts < n
-unfolding follow
-at_most_wants n (Done b) q ts h e = cc
-at_most_wants n (Faults f) q ts h e = cc
-at_most_wants n (Begins x t) q ts h e = at_most_wants n t q ts h e
-at_most_wants zero (Asks p k) q ts h e = absurd h
-at_most_wants (suc n) (Asks p k) q [] h e = omega arith
-at_most_wants {A = A} (suc n) (Asks p k) q (t ∷ ts) h e = go (matches p t) refl (at_most_wants n (k (answer_of t)) q ts (h (answer_of t)))
-  where
-    go : (b : Bool) → matches p t ≡ b → (follow (k (answer_of t)) ts ≡ Wants q → length ts < n) → length (t ∷ ts) < suc n
-    go true f ih = let i : length ts < n = ih (rw f at e) in omega arith
-    go false f ih = let d : Wrong ≡ Wants q = rw f at e in cc
 
 added : (old new : BusView) (ts : List Ask) → new.cycles ≡ old.cycles ++ ts → length new.cycles ≡ length old.cycles + length ts
 added old new ts e = ap length e ∙ length-append old.cycles ts
