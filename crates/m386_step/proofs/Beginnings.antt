@@ -4,8 +4,7 @@ use Rattle.std.proofs.lemmas.List.{take_all, take_more}
 use Rattle.m386_image.specs.declared.image.Image.{Image}
 use Rattle.m386_image.specs.declared.image.Section.{Section}
 use Rattle.m386_image.specs.Format.{IsValid}
-use Rattle.m386_image.specs.Memory.{fill, fill_all}
-use Rattle.m386_image.specs.Memory as images
+use Rattle.m386_image.specs.Memory.{blank_memory, fill, fill_all}
 use Rattle.m386_image.proofs.Filling.{filled_image, fill_all-push, section_inside}
 use Rattle.m386_memory.specs.Contents.{Contents, zeros, filled}
 use Rattle.m386_memory.proofs.Sizes.{length-zeros, length-filled}
@@ -15,7 +14,7 @@ use Rattle.m386_step.specs.Run.{BeginsWith}
 pub record HasFilled (I : Image) (sections : List Section) (i : ℕ) (now : Contents) : Type 0 where
   pub same : sections ≡ I.sections
   pub within : i ≤ length sections
-  pub memory : now.memory ≡ fill_all (take i sections) (images.zeros I.memory)
+  pub memory : now.memory ≡ fill_all (take i sections) (blank_memory I.memory)
   pub size : length now.memory ≡ I.memory
   pub ports : now.ports ≡ zeros 65536
 
@@ -36,14 +35,14 @@ fills_next I sections i now new s v h lt e n =
     rw n (record {
       same = h.same;
       within = omega arith;
-      memory = ap (λ (m : List ℕ). fill s.addr s.bytes m) h.memory ∙ sym (fill_all-push (take i sections) s (images.zeros I.memory)) ∙ sym (ap (λ (ss : List Section). fill_all ss (images.zeros I.memory)) more);
+      memory = ap (λ (m : List ℕ). fill s.addr s.bytes m) h.memory ∙ sym (fill_all-push (take i sections) s (blank_memory I.memory)) ∙ sym (ap (λ (ss : List Section). fill_all ss (blank_memory I.memory)) more);
       size = length-filled now.memory s.addr s.bytes fits ∙ h.size;
       ports = h.ports;
     })
 
 pub fills_all : (I : Image) (sections : List Section) (i : ℕ) (now : Contents) → IsValid I → HasFilled I sections i now → length sections ≤ i → BeginsWith I now
 fills_all I sections i now v h le =
-    let whole : now.memory ≡ fill_all I.sections (images.zeros I.memory) = h.memory ∙ ap (λ (ss : List Section). fill_all ss (images.zeros I.memory)) (take_all i sections le ∙ h.same) in
+    let whole : now.memory ≡ fill_all I.sections (blank_memory I.memory) = h.memory ∙ ap (λ (ss : List Section). fill_all ss (blank_memory I.memory)) (take_all i sections le ∙ h.same) in
     record {
       size = h.size;
       bytes = λ a lt. ap (λ (m : List ℕ). get_or m a 0) whole ∙ filled_image I a v;

@@ -31,7 +31,7 @@ use Rattle.m386_base.proofs.Plain.{plain_obeys}
 use Rattle.m386_step.specs.declared.fetch.Reader.{Reader}
 use Rattle.m386_step.specs.Code.{read_on, further_phrase, decode_phrase}
 use Rattle.m386_step.specs.Fetch.{byte_phrase, group_phrase, linear, first_reader, taken, fetch_ask}
-use Rattle.m386_step.specs.Instruction.{operation_phrase, instruction_phrase}
+use Rattle.m386_step.specs.Instruction.{operation_phrase, decoded_phrase, instruction_phrase}
 use Rattle.m386_step.specs.Keeping.{is_switch_cycle, NoSwitch, with_cycle, KeepsTask, AnyFault}
 use Rattle.m386_step.specs.Step.{is_due, without_event, settled, running_phrase, turn_phrase, step_phrase}
 use Rattle.m386_step.proofs.Anew.{matches-role}
@@ -160,7 +160,7 @@ keeps_behind op p us after k = go (is_followed (element_of op.name) op.rep p aft
     go false = k
 
 calm_instruction : (p : Proc) → Calm (λ us (r : Ran). KeepsTask p us r.after) [] (instruction_phrase p)
-unfolding instruction_phrase
+unfolding instruction_phrase decoded_phrase
 calm_instruction p =
     obeys_then NoSwitch with_cycle Anything (λ us (r : Ran). KeepsTask p us r.after) AnyFault [] (decode_phrase (first_reader p)) _ (calm_decode (first_reader p) [])
     (λ us d o.

@@ -13,7 +13,7 @@ use Rattle.m386_state.specs.declared.proc.Proc.{Proc}
 use Rattle.m386_step.specs.declared.fetch.Reader.{Reader}
 use Rattle.m386_step.specs.Code.{read_on, further_phrase, decode_phrase}
 use Rattle.m386_step.specs.Fetch.{byte_phrase, group_phrase, linear, first_reader, taken, fetch_ask}
-use Rattle.m386_step.specs.Instruction.{instruction_phrase}
+use Rattle.m386_step.specs.Instruction.{decoded_phrase, instruction_phrase}
 use Rattle.m386_step.proofs.Ordinary.{short_operation}
 use Rattle.m386_step.specs.Step.{is_due, running_phrase, turn_phrase, step_phrase}
 
@@ -44,7 +44,7 @@ unfolding decode_phrase
 short_decode r = short_further 15 [] r
 
 short_instruction : (p : Proc) → AtMost 23 (instruction_phrase p)
-unfolding instruction_phrase
+unfolding instruction_phrase decoded_phrase
 short_instruction p = at_most_then 15 8 _ _ (short_decode (first_reader p)) (λ d. at_most_then 8 0 _ _ (short_operation d.op _) (λ r. tt))
 
 short_running : (p : Proc) → AtMost 192 (running_phrase p)

@@ -1,5 +1,5 @@
 -- One instruction: the crate that has its operation.
-use Rattle.std.specs.Prelude.{◌+◌, ◌%◌, ◌^◌, if◌then◌else◌}
+use Rattle.std.specs.Prelude.{ℕ, ◌+◌, ◌%◌, ◌^◌, if◌then◌else◌}
 use Rattle.m386_base.specs.Phrase.{Phrase, Done, Faults, ◌>>=◌}
 use Rattle.m386_opmap.specs.declared.op.Op.{Op}
 use Rattle.m386_state.specs.declared.proc.Proc.{Proc}
@@ -25,10 +25,20 @@ operation_phrase op p =
     else if system_ops.takes op then plainly (system_ops.exec_phrase op p)
     else Faults undefined_opcode_of
 
--- The instruction at EIP, or a turn of one that is repeated, behind which EIP may be the instruction's again.
+-- what an operation of an instruction that began in a state comes to: EIP is the instruction's again where a further turn follows
+abbrev pub ended : Op → Proc → Ran → Ran
+ended op before r = ran (behind_turn op before r.after) r.fault
+
+-- An instruction of so many bytes, or a turn of one that is repeated.
 -- Source: Intel 80386 PRM 17.2.1, 3.6.1
+unfoldable pub decoded_phrase : Op → ℕ → Proc → Phrase Ran
+decoded_phrase op len p = do
+  r ← operation_phrase op (moved p ((p.eip + len) % 2 ^ 32))
+  Done (ended op p r)
+
+-- The instruction at EIP.
+-- Source: Intel 80386 PRM 17.2.1
 unfoldable pub instruction_phrase : Proc → Phrase Ran
 instruction_phrase p = do
   d ← decode_phrase (first_reader p)
-  r ← operation_phrase d.op (moved p ((p.eip + d.len) % 2 ^ 32))
-  Done (ran (behind_turn d.op p r.after) r.fault)
+  decoded_phrase d.op d.len p

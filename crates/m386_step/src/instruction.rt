@@ -2,7 +2,7 @@
 ghost use Rattle.std.specs.Prelude.{◌≡◌, false, OnErr};
 ghost use Rattle.m386_access.specs.Ran.{ran};
 ghost use Rattle.m386_base.specs.Phrase.{Performs, it};
-ghost use Rattle.m386_step.specs.Instruction.{operation_phrase, instruction_phrase};
+ghost use Rattle.m386_step.specs.Instruction.{operation_phrase, ended, decoded_phrase, instruction_phrase};
 
 use crate::code::fetch_operation;
 use crate::fetch::reader_at;
@@ -46,7 +46,30 @@ fn perform<B: Bus>(p: &mut Proc, op: &Op, bus: &mut B) -> Result<Option<Fault>, 
     Err(Break::Fault(undefined_opcode()))
 }
 
-/// The instruction at EIP, or a turn of one that is repeated. One that isn't built is #UD, behind its last byte.
+/// What an operation of an instruction that began in a state comes to: EIP is the instruction's again where a further turn
+/// follows.
+fn ended(op: &Op, before: &Proc, after: &Proc, fault: Option<Fault>) -> Ran
+    ensures { result ≡ ended op.now before.now (ran after.now fault) }
+{
+    Ran {
+        after: behind_turn(op, before, after),
+        fault,
+    }
+}
+
+/// An instruction of so many bytes, or a turn of one that is repeated.
+#[tactic(auto, using(m386_base::proofs::Phrases::calls), unfolding(crate::specs::Instruction::decoded_phrase))]
+fn execute<B: Bus>(op: &Op, len: u8, p: &Proc, bus: &mut B) -> Result<Ran, Break>
+    requires free { (B.view bus.old).kept ≡ false }
+    ensures cycles { Performs (decoded_phrase op.now len p.now) (B.view bus.old) (B.view bus.new) it result }
+    ensures free { (B.view bus.new).kept ≡ false }
+{
+    let mut after = moved(p, p.eip.wrapping_add(u32::from(len)));
+    let fault = perform(&mut after, op, bus)?;
+    Ok(ended(op, p, &after, fault))
+}
+
+/// The instruction at EIP. One that isn't built is #UD, behind its last byte.
 #[tactic(auto, using(m386_base::proofs::Phrases::calls), unfolding(crate::specs::Instruction::instruction_phrase))]
 pub fn instruction<B: Bus>(p: &Proc, bus: &mut B) -> Result<Ran, Break>
     requires free { (B.view bus.old).kept ≡ false }
@@ -54,10 +77,5 @@ pub fn instruction<B: Bus>(p: &Proc, bus: &mut B) -> Result<Ran, Break>
     ensures free { (B.view bus.new).kept ≡ false }
 {
     let decoded = fetch_operation(reader_at(p), bus)?;
-    let mut after = moved(p, p.eip.wrapping_add(decoded.len as u32));
-    let fault = perform(&mut after, &decoded.op, bus)?;
-    Ok(Ran {
-        after: behind_turn(&decoded.op, p, &after),
-        fault,
-    })
+    execute(&decoded.op, decoded.len, p, bus)
 }

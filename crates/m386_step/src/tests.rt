@@ -6,18 +6,22 @@ ghost use Rattle.std.specs.Prelude.{◌≡◌, ◌<◌, ◌≤◌, [], false, le
 
 use crate::alone::step_alone;
 use crate::answer::Probe;
+use crate::begin::start;
 use crate::probe::probe;
 use crate::run::run;
 use crate::step::step;
 use m386_base::ask::{Ask, Cycle, Role, Space};
 use m386_base::bus::Bus;
 use m386_base::fault::Stop;
+use m386_base::list::List;
 use m386_base::number::Flags;
 use m386_base::probe::ProbeBus;
+use m386_image::image::{Image, TableAt};
 use m386_memory::fixed::FixedBus;
 use m386_state::event::{Cause, Event};
 use m386_state::proc::{Mode, Proc, start_bare, start_task};
 use m386_state::segment::TableReg;
+use std::alloc::Global;
 use std::process::Abort;
 
 /// The bytes at 1010h in each case. Those at 1000h are its code, and all others are 0.
@@ -510,6 +514,8 @@ fn an_instruction_halts_faults_or_traps(rt: HostRuntime) {
     let p = bare();
     let mut user = p;
     user.segs[1].selector = 0x1b;
+    let mut inner = p;
+    inner.segs[1].selector = 9;
     let traced = flagged(&p, 0x102);
     let halt = &[0xf4, 0, 0, 0, 0, 0, 0, 0];
     let undefined = &[0x0f, 4, 0, 0, 0, 0, 0, 0];
@@ -528,6 +534,13 @@ fn an_instruction_halts_faults_or_traps(rt: HostRuntime) {
             code: halt,
             cycles: &[fetch(0x1000, 0xf4)],
             after: pending(&user, 13, Some(0)),
+        },
+        Case {
+            name: "HLT with CPL 1",
+            before: inner,
+            code: halt,
+            cycles: &[fetch(0x1000, 0xf4)],
+            after: pending(&inner, 13, Some(0)),
         },
         Case {
             name: "an undefined opcode",
@@ -578,4 +591,35 @@ fn a_run_ends_at_its_budget_or_in_shutdown(rt: HostRuntime) {
     let mut bus = bus_of(&[0xeb, 0xfe, 0, 0, 0, 0, 0, 0]);
     assert_eq!(rt; run(&mut p, &mut bus, 200), Err(Stop::Paused));
     assert_eq!(rt; bus.cycles().len(), 192);
+}
+
+/// An image of two processors: the first starts bare, and the second in a task.
+fn two_starts(alloc: Global) -> Image {
+    Image {
+        memory: 0x4000,
+        cpus: 2,
+        flags: 2,
+        gdt: TableAt {
+            base: 0x1111,
+            limit: 0x22,
+        },
+        idt: TableAt {
+            base: 0x3333,
+            limit: 0x44,
+        },
+        starts: [0x5678, 0xabcd_0028, 0, 0, 0, 0, 0, 0],
+        plan: List::new(alloc),
+        sections: List::new(alloc),
+    }
+}
+
+#[test]
+fn each_processor_starts_with_the_tables_of_the_image(rt: HostRuntime) {
+    let image = two_starts(rt.alloc());
+    for (cpu, eip, task) in [(0, 0x5678, None), (1, 0, Some(0x28))] {
+        let p = start(&image, cpu);
+        assert_eq!(rt; (p.eip, p.start), (eip, task));
+        assert_eq!(rt; (p.gdtr.base, p.gdtr.limit), (0x1111, 0x22));
+        assert_eq!(rt; (p.idtr.base, p.idtr.limit), (0x3333, 0x44));
+    }
 }

@@ -20,7 +20,7 @@ use Rattle.m386_access.specs.After.{len_of, register_of, register_at, with_regis
 use Rattle.m386_access.specs.Operands.{operands_of}
 use Rattle.m386_access.specs.Ordinary.{Ordinary, Keeps, PlainFrom}
 use Rattle.m386_access.specs.Registers.{eax, ecx, esi, edi}
-use Rattle.m386_access.specs.declared.operands.Operand.TheVariants.{Memory}
+use Rattle.m386_access.specs.declared.operands.Place.TheVariants.{Memory}
 use Rattle.m386_access.specs.declared.operands.Operands.{Operands}
 use Rattle.m386_access.specs.declared.operands.Operands.TheVariants.{Absent, One}
 use Rattle.m386_access.proofs.Phrases.{Stays, keeps_stays, stays_same, stays_if, stays_register, read_then, write_then}

@@ -17,7 +17,7 @@ use Rattle.m386_state.specs.declared.proc.Proc.{Proc}
 use Rattle.m386_access.specs.Access.{read_phrase, write_phrase, read_at_phrase}
 use Rattle.m386_access.specs.After.{len_of, register_of, with_register, register_at, with_register_at, with_flags}
 use Rattle.m386_access.specs.Registers.{eax, esi, edi}
-use Rattle.m386_access.specs.declared.operands.Operand.TheVariants.{Memory}
+use Rattle.m386_access.specs.declared.operands.Place.TheVariants.{Memory}
 use Rattle.m386_access.specs.declared.operands.Operands.{Operands}
 use Rattle.m386_access.specs.declared.operands.Operands.TheVariants.{Absent, One}
 use Rattle.m386_string.specs.declared.element.Element.{Element}

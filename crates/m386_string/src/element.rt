@@ -8,7 +8,7 @@ use m386_access::access::{read, read_at, write};
 use m386_access::after::{
     len_of, register_at, register_of, with_flags, with_register, with_register_at,
 };
-use m386_access::operands::{Operand, Operands};
+use m386_access::operands::{Operands, Place};
 use m386_access::registers::{EAX, EDI, ESI};
 use m386_alu::arithmetic::{AluOp, alu};
 use m386_base::ask::Role;
@@ -184,14 +184,14 @@ pub(crate) fn do_element<B: Bus>(
     ensures free { (B.view bus.new).kept ≡ false }
 {
     match (element, operands) {
-        (Element::Move, Operands::One(Operand::Memory(source))) => {
+        (Element::Move, Operands::One(Place::Memory(source))) => {
             move_element(width, &source, p, bus)
         }
-        (Element::Compare, Operands::One(Operand::Memory(source))) => {
+        (Element::Compare, Operands::One(Place::Memory(source))) => {
             compare_elements(width, &source, p, bus)
         }
         (Element::Store, Operands::Absent) => store_element(width, p, bus),
-        (Element::Load, Operands::One(Operand::Memory(source))) => {
+        (Element::Load, Operands::One(Place::Memory(source))) => {
             load_element(width, &source, p, bus)
         }
         (Element::Scan, Operands::Absent) => scan_element(width, p, bus),
