@@ -3,8 +3,9 @@
 
 usage: run.py PROGRAM
 
-It builds nothing. Two kinds of runs are measured: one processor on a long straight row of MOV EAX, number and
-MOV [address], EAX; and two processors, in the order round, that exchange EAX with one place in memory for ever (XCHG, JMP).
+It builds nothing. Three kinds of runs are measured: one processor on a long straight row of MOV EAX, number and
+MOV [address], EAX; one processor that goes round in a mix of ordinary instructions; and two processors, in the order round, that
+exchange EAX with one place in memory for ever (XCHG, JMP).
 For each count of steps of a processor it prints the best of three runs with the report written to a file, and how many cycles
 a second the best of three makes whose report goes to the null device.
 """
@@ -31,6 +32,35 @@ def straight():
     for i in range(max(COUNTS) // 2):
         code += b"\xb8" + struct.pack("<I", i) + b"\xa3" + struct.pack("<I", DATA + 4 * i)
     return image(1, code + b"\xf4")
+
+
+def mix():
+    """Moves, arithmetic, shifts, bits, a product and a quotient, on registers and memory by several addressing forms, and a jump back."""
+    body = bytes.fromhex(
+        "bb00008000"  # MOV EBX, 800000h
+        "8b03"  # MOV EAX, [EBX]
+        "83c007"  # ADD EAX, 7
+        "894304"  # MOV [EBX+4], EAX
+        "0fb64b05"  # MOVZX ECX, byte [EBX+5]
+        "83e10f"  # AND ECX, 15
+        "8b148b"  # MOV EDX, [EBX+ECX*4]
+        "31c2"  # XOR EDX, EAX
+        "d3e2"  # SHL EDX, CL
+        "8d740a10"  # LEA ESI, [EDX+ECX+16]
+        "01733c"  # ADD [EBX+60], ESI
+        "663b7340"  # CMP SI, [EBX+64]
+        "0f94c1"  # SETE CL
+        "0fa3c8"  # BT EAX, ECX
+        "83d200"  # ADC EDX, 0
+        "0fafc1"  # IMUL EAX, ECX
+        "31d2"  # XOR EDX, EDX
+        "bf03000000"  # MOV EDI, 3
+        "f7f7"  # DIV EDI
+        "fe4348"  # INC byte [EBX+72]
+        "f03103"  # LOCK XOR [EBX], EAX
+        "8703"  # XCHG [EBX], EAX
+    )
+    return image(1, body + b"\xe9" + struct.pack("<i", -(len(body) + 5)))
 
 
 def exchanges():
@@ -82,6 +112,7 @@ def measure(program, name, cpus, data):
 def main():
     program = os.path.abspath(sys.argv[1])
     measure(program, "one processor, straight code", 1, straight())
+    measure(program, "one processor, a mix of ordinary instructions", 1, mix())
     measure(program, "two processors, exchanges in a loop", 2, exchanges())
 
 

@@ -89,6 +89,43 @@ fn two_processors_exchange(rt: HostRuntime) -> Result<(), Fail> {
     Ok(())
 }
 
+/// LOCK INC of the doubleword at 2000h.
+const INCREMENT: [u8; 7] = [0xf0, 0xff, 0x05, 0x00, 0x20, 0x00, 0x00];
+
+#[test]
+fn a_locked_pair_lets_no_cycle_in(rt: HostRuntime) -> Result<(), Fail> {
+    let image = image_of_many(rt.alloc(), 2, &INCREMENT)?;
+    let words = ["run", "--order=round", "--steps=1"];
+    let came = call(rt.alloc(), &words, image, 16, NO_FAILURE)?;
+    let mut want = String::from_str(rt.alloc(), "m386 report 1\nmemory 00004000 cpus 2\n")?;
+    for line in [
+        "c 0 m r . fetch 00 00001000 f 0005fff0\n",
+        "c 1 m r . fetch 00 00001000 f 0005fff0\n",
+        "c 0 m r . fetch 00 00001004 f 00000020\n",
+        "c 1 m r . fetch 00 00001004 f 00000020\n",
+        "c 0 m r . data 00 00002000 f 00000000\n",
+        "c 0 m w + data 00 00002000 f 00000001\n",
+        "c 1 m r . data 00 00002000 f 00000001\n",
+        "c 1 m w + data 00 00002000 f 00000002\n",
+    ] {
+        want.push_str(line)?;
+    }
+    for begin in ["p 0", "p 1"] {
+        for part in [
+            begin,
+            " running steps 1 eip 00001007 efl 00000002 eax 00000000 ",
+            OTHERS,
+            " pending none\n",
+        ] {
+            want.push_str(part)?;
+        }
+    }
+    want.push_str("clean\n")?;
+    assert_eq!(rt; came.status, Status::Done);
+    assert_eq!(rt; came.out.bytes(), want.as_bytes());
+    Ok(())
+}
+
 /// The report of a run of two processors that exchange, in the order that these members list.
 fn report_in(alloc: Global, members: Vec<u8>) -> Result<MemSink, Fail> {
     let bytes = image_of_many(alloc, 2, &EXCHANGE)?;
