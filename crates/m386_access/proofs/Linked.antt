@@ -25,6 +25,6 @@ pub linked_writes_end : (lock : Bool) (value : ℕ) (ps : List Piece) (i : ℕ) 
 unfolding linked_writes
 linked_writes_end lock value ps i h = rw (drop_all i ps h) refl
 
-pub ruleset read_steps = (linked_reads_next, linked_reads_end)
+pub ruleset linked_read_steps = (linked_reads_next, linked_reads_end)
 
-pub ruleset write_steps = (linked_writes_next, linked_writes_end)
+pub ruleset linked_write_steps = (linked_writes_next, linked_writes_end)

@@ -6,8 +6,8 @@ use Rattle.m386_base.specs.declared.number.Width.TheVariants.{W8, W16, W32}
 use Rattle.m386_state.specs.declared.proc.Proc.{Proc}
 
 -- at another EIP
-abbrev pub moved : Proc → ℕ → Proc
-moved p eip = record p { eip = eip }
+abbrev pub at_eip : Proc → ℕ → Proc
+at_eip p eip = record p { eip = eip }
 
 -- A general register by its number, of which three bits count: EAX, ECX, EDX, EBX, ESP, EBP, ESI, EDI.
 -- Source: Intel 80386 PRM 2.3.1, 17.2.1

@@ -1,14 +1,14 @@
 //! The state behind an instruction.
 ghost use Rattle.std.specs.Prelude.{◌≡◌};
 ghost use Rattle.m386_base.specs.Split.{IsLength};
-ghost use Rattle.m386_access.specs.After.{moved, register_of, with_register, with_flags, len_of, byte_register_of, register_at, with_byte_register, with_register_at};
+ghost use Rattle.m386_access.specs.After.{at_eip, register_of, with_register, with_flags, len_of, byte_register_of, register_at, with_byte_register, with_register_at};
 
 use m386_base::number::{Flags, Width};
 use m386_state::proc::Proc;
 
 /// The state at another EIP.
-pub fn moved(p: &Proc, eip: u32) -> Proc
-    ensures { result ≡ moved p.now eip }
+pub fn at_eip(p: &Proc, eip: u32) -> Proc
+    ensures { result ≡ at_eip p.now eip }
 {
     let mut after = *p;
     after.eip = eip;

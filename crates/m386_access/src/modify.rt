@@ -15,7 +15,7 @@ use m386_state::proc::Proc;
 
 /// The bytes of an access, read group by group. Where there is a LOCK, the cycles behind the first are joined. The bus stays kept
 /// behind the last exactly where `stays` says so.
-#[tactic(auto, using(m386_base::proofs::Phrases::calls, m386_base::proofs::Groups::group_at, crate::proofs::Linked::read_steps))]
+#[tactic(auto, using(m386_base::proofs::Phrases::calls, m386_base::proofs::Groups::group_at, crate::proofs::Linked::linked_read_steps))]
 fn read_linked<B: Bus>(bus: &mut B, groups: &[Piece], lock: bool, stays: bool) -> Result<u32, Break>
     requires free { (B.view bus.old).kept ≡ false }
     requires groups { AreGroups spaces.Memory groups.now }
@@ -47,7 +47,7 @@ fn read_linked<B: Bus>(bus: &mut B, groups: &[Piece], lock: bool, stays: bool) -
 
 /// The bytes of an access, written group by group behind its reads. Where there is a LOCK, each cycle is joined, and the last
 /// ends the locked group.
-#[tactic(auto, using(m386_base::proofs::Phrases::calls, m386_base::proofs::Groups::group_at, crate::proofs::Linked::write_steps))]
+#[tactic(auto, using(m386_base::proofs::Phrases::calls, m386_base::proofs::Groups::group_at, crate::proofs::Linked::linked_write_steps))]
 fn write_linked<B: Bus>(bus: &mut B, groups: &[Piece], lock: bool, value: u32) -> Result<(), Break>
     requires kept { (B.view bus.old).kept ≡ lock }
     requires groups { AreGroups spaces.Memory groups.now }

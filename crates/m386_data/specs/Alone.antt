@@ -34,13 +34,13 @@ alone_of names.Cdq = Some SpreadSign
 alone_of _ = None
 
 -- a flag as a byte has it at the flag's place
-abbrev pub taken : Flag → ℕ → Flags → Flags
-taken flag byte f = with_flag flag (has_bit byte (place flag)) f
+abbrev pub with_bit_of : Flag → ℕ → Flags → Flags
+with_bit_of flag byte f = with_flag flag (has_bit byte (place flag)) f
 
 -- CF, PF, AF, ZF and SF as a byte has them.
 -- Source: Intel 80386 PRM 17.2.2.11, SAHF
 abbrev pub with_low_flags : ℕ → Flags → Flags
-with_low_flags byte f = taken Carry byte (taken Parity byte (taken Adjust byte (taken Zero byte (taken Sign byte f))))
+with_low_flags byte f = with_bit_of Carry byte (with_bit_of Parity byte (with_bit_of Adjust byte (with_bit_of Zero byte (with_bit_of Sign byte f))))
 
 -- half as wide
 abbrev pub half : Width → Width

@@ -16,12 +16,12 @@ use Rattle.m386_access.specs.declared.operands.Operands.{Operands}
 use Rattle.m386_data.specs.Change.{low_of}
 
 -- less, of two numbers of a width that are read with a sign
-abbrev pub is_less : Width → ℕ → ℕ → Bool
-is_less w a b = int_lt (signed (bits w) a) (signed (bits w) b)
+abbrev pub is_less_signed : Width → ℕ → ℕ → Bool
+is_less_signed w a b = int_lt (signed (bits w) a) (signed (bits w) b)
 
 -- whether an index is below the lower bound or above the upper one
 unfoldable pub is_outside : Width → ℕ → ℕ → ℕ → Bool
-is_outside w index lower upper = is_less w index lower || is_less w upper index
+is_outside w index lower upper = is_less_signed w index lower || is_less_signed w upper index
 
 -- Both bounds read, the lower one first, each by an access of its own.
 -- Source: Intel 80386 PRM 17.2.2.11, BOUND

@@ -83,13 +83,13 @@ swap_phrase w p a register = do
   Done (with_register_at w p register old)
 
 -- two registers
-abbrev pub swapped : Width → Proc → ℕ → ℕ → Proc
-swapped w p a b = with_register_at w (with_register_at w p a (register_at w p b)) b (register_at w p a)
+abbrev pub registers_swapped : Width → Proc → ℕ → ℕ → Proc
+registers_swapped w p a b = with_register_at w (with_register_at w p a (register_at w p b)) b (register_at w p a)
 
 -- an operand and a register
 abbrev pub exchange_with_phrase : Width → Proc → Place → ℕ → Phrase Proc
 exchange_with_phrase w p (Memory a) register = swap_phrase w p a register
-exchange_with_phrase w p (Register other) register = Done (swapped w p other register)
+exchange_with_phrase w p (Register other) register = Done (registers_swapped w p other register)
 exchange_with_phrase w p (Number number) register = Faults undefined_opcode_of
 exchange_with_phrase w p Other register = Faults undefined_opcode_of
 

@@ -2,7 +2,7 @@
 ghost use Rattle.std.specs.Prelude.{◌≡◌, ◌<◌, ◌^◌, false};
 ghost use Rattle.m386_alu.specs.Width.{bits};
 ghost use Rattle.m386_base.specs.Phrase.{Performs, it};
-ghost use Rattle.m386_data.specs.Bound.{is_less, is_outside, bounds_phrase, check_bounds_phrase, bound_phrase};
+ghost use Rattle.m386_data.specs.Bound.{is_less_signed, is_outside, bounds_phrase, check_bounds_phrase, bound_phrase};
 
 use crate::change::low;
 use m386_access::access::read;
@@ -19,10 +19,10 @@ use m386_state::proc::Proc;
 
 /// Less, of two numbers of a width that are read with a sign.
 #[tactic(auto, unfolding(m386_alu::specs::Width::signed))]
-fn is_less(width: Width, a: u32, b: u32) -> bool
+fn is_less_signed(width: Width, a: u32, b: u32) -> bool
     requires a_fits { a < 2 ^ bits width }
     requires b_fits { b < 2 ^ bits width }
-    ensures { result ≡ is_less width a b }
+    ensures { result ≡ is_less_signed width a b }
 {
     match (has_sign(width, a), has_sign(width, b)) {
         (true, false) => true,
@@ -39,7 +39,7 @@ fn is_outside(width: Width, index: u32, lower: u32, upper: u32) -> bool
     requires upper_fits { upper < 2 ^ bits width }
     ensures { result ≡ is_outside width index lower upper }
 {
-    is_less(width, index, lower) || is_less(width, upper, index)
+    is_less_signed(width, index, lower) || is_less_signed(width, upper, index)
 }
 
 /// Reads both bounds, the lower one first.

@@ -15,6 +15,6 @@ pub fn searches_find_their_bit()
 
 /// Each operation is an ordinary one of at most 8 cycles.
 #[tactic(auto, using(crate::proofs::Plain::exec_plain))]
-pub fn operations_are_plain()
+pub fn data_operations_are_plain()
     ensures { (op : OpRecord) (p : ProcRecord) → PlainFrom 8 p (exec_phrase op p) }
 {}

@@ -2,7 +2,7 @@
 ghost use Rattle.std.specs.Prelude.{◌≡◌, ◌<◌, ◌^◌, false};
 ghost use Rattle.m386_alu.specs.Width.{bits};
 ghost use Rattle.m386_base.specs.Phrase.{Performs, it};
-ghost use Rattle.m386_data.specs.Moves.{moves_of, moves_phrase, move_phrase, extended_of, extend_phrase, address_phrase, swap_phrase, swapped, exchange_with_phrase, exchange_phrase, table_byte_phrase, translate_phrase, set_phrase};
+ghost use Rattle.m386_data.specs.Moves.{moves_of, moves_phrase, move_phrase, extended_of, extend_phrase, address_phrase, swap_phrase, registers_swapped, exchange_with_phrase, exchange_phrase, table_byte_phrase, translate_phrase, set_phrase};
 
 use crate::change::low;
 use m386_access::access::read;
@@ -183,8 +183,8 @@ fn swap<B: Bus>(width: Width, p: &Proc, a: &Addr, register: u8, bus: &mut B) -> 
 }
 
 /// Two registers exchanged.
-fn swapped(width: Width, p: &Proc, a: u8, b: u8) -> Proc
-    ensures { result ≡ swapped width p.now a b }
+fn registers_swapped(width: Width, p: &Proc, a: u8, b: u8) -> Proc
+    ensures { result ≡ registers_swapped width p.now a b }
 {
     let after = with_register_at(width, p, a, register_at(width, p, b));
     with_register_at(width, &after, b, register_at(width, p, a))
@@ -205,7 +205,7 @@ fn exchange_with<B: Bus>(
 {
     match operand {
         Place::Memory(a) => swap(width, p, &a, register, bus),
-        Place::Register(other) => Ok(swapped(width, p, other, register)),
+        Place::Register(other) => Ok(registers_swapped(width, p, other, register)),
         Place::Number(_) | Place::Other => Err(Break::Fault(undefined_opcode())),
     }
 }

@@ -10,7 +10,7 @@ use Rattle.m386_opmap.specs.declared.op.Arg.{Arg}
 use Rattle.m386_opmap.specs.declared.op.Arg.TheVariants.{Rel}
 use Rattle.m386_opmap.specs.declared.op.Op.{Op}
 use Rattle.m386_state.specs.declared.proc.Proc.{Proc}
-use Rattle.m386_access.specs.After.{moved}
+use Rattle.m386_access.specs.After.{at_eip}
 use Rattle.m386_access.specs.Ran.{whole}
 use Rattle.m386_access.specs.declared.ran.Ran.{Ran}
 use Rattle.m386_gates.specs.declared.near.Near.{Near}
@@ -25,7 +25,7 @@ near_of _ = None
 -- JMP at a distance from the end of the instruction, where EIP stands.
 -- Source: Intel 80386 PRM 17.2.2.11, JMP
 abbrev pub jump_phrase : List Arg → Proc → Phrase Ran
-jump_phrase (Rel distance ∷ []) p = whole (moved p ((p.eip + distance) % 2 ^ 32))
+jump_phrase (Rel distance ∷ []) p = whole (at_eip p ((p.eip + distance) % 2 ^ 32))
 jump_phrase _ p = Faults undefined_opcode_of
 
 -- Targets of 16 bits aren't built.

@@ -3,7 +3,7 @@ ghost use Rattle.std.specs.Prelude.{◌≡◌, false};
 ghost use Rattle.m386_base.specs.Phrase.{Performs, it};
 ghost use Rattle.m386_gates.specs.Near.{near_of, jump_phrase, jump_by_width, near_phrase};
 
-use m386_access::after::moved;
+use m386_access::after::at_eip;
 use m386_access::ran::{Ran, without_fault};
 use m386_base::bus::Bus;
 use m386_base::exception::undefined_opcode;
@@ -38,7 +38,7 @@ fn jump<B: Bus>(args: &[Arg], p: &Proc, bus: &mut B) -> Result<Ran, Break>
     ensures free { (B.view bus.new).kept ≡ false }
 {
     match args {
-        [Arg::Rel(distance)] => Ok(without_fault(moved(p, p.eip.wrapping_add(*distance)))),
+        [Arg::Rel(distance)] => Ok(without_fault(at_eip(p, p.eip.wrapping_add(*distance)))),
         _ => Err(Break::Fault(undefined_opcode())),
     }
 }

@@ -6,7 +6,7 @@ use Rattle.m386_base.specs.Bus.{BusView}
 use Rattle.m386_base.specs.Phrase.{Phrase, Done, Faults, Asks, Begins, ◌>>=◌, follow, Whole, Wrong, Completes, matches, answer_of, one}
 use Rattle.m386_opmap.proofs.Sound.{AllAreBytes}
 use Rattle.m386_step.specs.declared.fetch.Reader.{Reader}
-use Rattle.m386_step.specs.Fetch.{byte_phrase, group_phrase, byte_in, linear, taken, fetch_ask}
+use Rattle.m386_step.specs.Fetch.{byte_phrase, group_phrase, byte_of_value, linear, taken, fetch_ask}
 use Rattle.m386_step.specs.Fetched.{Fetched, Gives}
 
 -- one byte
@@ -40,7 +40,7 @@ finds_if P false t u h k = k
 abbrev FindsByte : ℕ × Reader → Type 0
 FindsByte x = x.0 < 256
 
-byte_below : (value at : ℕ) → byte_in value at < 256
+byte_below : (value at : ℕ) → byte_of_value value at < 256
 byte_below value at = below (value / 2 ^ (8 * (at % 4)))
   where
     below : (n : ℕ) → n % 256 < 256

@@ -21,7 +21,7 @@ use Rattle.m386_state.specs.declared.proc.Mode.{Mode}
 use Rattle.m386_state.specs.declared.proc.Mode.TheVariants.{Running, Halted, Shutdown}
 use Rattle.m386_state.specs.declared.proc.Proc.{Proc}
 use Rattle.m386_state.specs.declared.segment.TableReg.{TableReg}
-use Rattle.m386_access.specs.After.{moved}
+use Rattle.m386_access.specs.After.{at_eip}
 use Rattle.m386_access.specs.Ordinary.{Ordinary, Reads, Writes, Accesses, is_read_role, is_write_role, has_role, is_nested, popped, Keeps, KeepsRan}
 use Rattle.m386_access.specs.declared.ran.Ran.{Ran}
 use Rattle.m386_string.specs.Element.{element_of}
@@ -155,7 +155,7 @@ keeps_behind : (op : Op) (p : Proc) (us : List Ask) (after : Proc) → KeepsTask
 unfolding behind_turn
 keeps_behind op p us after k = go (is_followed (element_of op.name) op.rep p after)
   where
-    go : (b : Bool) → KeepsTask p us (cond b (moved after p.eip) after)
+    go : (b : Bool) → KeepsTask p us (cond b (at_eip after p.eip) after)
     go true = record { tr = k.tr; gdtr = k.gdtr; nested = k.nested }
     go false = k
 
@@ -164,7 +164,7 @@ unfolding instruction_phrase decoded_phrase
 calm_instruction p =
     obeys_then NoSwitch with_cycle Anything (λ us (r : Ran). KeepsTask p us r.after) AnyFault [] (decode_phrase (first_reader p)) _ (calm_decode (first_reader p) [])
     (λ us d o.
-    let begun : Proc = moved p ((p.eip + d.len) % 2 ^ 32) in
+    let begun : Proc = at_eip p ((p.eip + d.len) % 2 ^ 32) in
     obeys_then NoSwitch with_cycle (λ vs (r : Ran). KeepsTask begun vs r.after) (λ vs (r : Ran). KeepsTask p vs r.after) AnyFault us (operation_phrase d.op begun) _ (calm_operation d.op begun us)
     (λ vs r k. keeps_behind d.op p vs r.after (record { tr = k.tr; gdtr = k.gdtr; nested = k.nested })))
 

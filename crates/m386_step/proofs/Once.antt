@@ -5,7 +5,7 @@ use Rattle.m386_base.proofs.Bounds.{obeys_then}
 use Rattle.m386_state.specs.declared.proc.Mode.{Mode}
 use Rattle.m386_state.specs.declared.proc.Mode.TheVariants.{Running, Halted, Shutdown}
 use Rattle.m386_state.specs.declared.proc.Proc.{Proc}
-use Rattle.m386_access.specs.After.{moved}
+use Rattle.m386_access.specs.After.{at_eip}
 use Rattle.m386_step.specs.Code.{decode_phrase}
 use Rattle.m386_step.specs.Fetch.{first_reader}
 use Rattle.m386_step.specs.Instruction.{operation_phrase, decoded_phrase, instruction_phrase}
@@ -20,7 +20,7 @@ unfolding instruction_phrase decoded_phrase
 once_instruction p =
     obeys_then IsAnew with_fetched AnyGroups AnyGroups AnyGroups [] (decode_phrase (first_reader p)) _ (once_decode (first_reader p))
     (λ later d h.
-    let begun : Proc = moved p ((p.eip + d.len) % 2 ^ 32) in
+    let begun : Proc = at_eip p ((p.eip + d.len) % 2 ^ 32) in
     obeys_then IsAnew with_fetched AnyGroups AnyGroups AnyGroups later (operation_phrase d.op begun) _ (none_once later (operation_phrase d.op begun) (none_operation d.op begun)) (λ vs r k. tt))
 
 once_turn : (m : Mode) (p : Proc) → Once AnyGroups [] (turn_phrase m p)

@@ -12,8 +12,8 @@ use Rattle.m386_base.specs.Exceptions.{general_protection_of}
 use Rattle.m386_base.specs.Segments.{cs}
 
 -- byte at % 4 of a group
-abbrev pub byte_in : ℕ → ℕ → ℕ
-byte_in value at = value / 2 ^ (8 * (at % 4)) % 256
+abbrev pub byte_of_value : ℕ → ℕ → ℕ
+byte_of_value value at = value / 2 ^ (8 * (at % 4)) % 256
 
 -- the whole group at an address
 abbrev pub fetch_ask : ℕ → Ask
@@ -31,7 +31,7 @@ linear r = (r.base + r.at) % 2 ^ 32
 
 -- a byte of the group that was fetched last, and the reader behind it
 abbrev pub taken : Reader → ℕ × Reader
-taken r = (byte_in r.value (linear r), record r { at = (r.at + 1) % 2 ^ 32 })
+taken r = (byte_of_value r.value (linear r), record r { at = (r.at + 1) % 2 ^ 32 })
 
 -- The next byte. Its group is fetched where it isn't the one that was fetched last.
 -- Own choice: docs/DECISIONS.md, "Fetches"

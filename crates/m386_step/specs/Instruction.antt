@@ -3,7 +3,7 @@ use Rattle.std.specs.Prelude.{ℕ, ◌+◌, ◌%◌, ◌^◌, if◌then◌else�
 use Rattle.m386_base.specs.Phrase.{Phrase, Done, Faults, ◌>>=◌}
 use Rattle.m386_opmap.specs.declared.op.Op.{Op}
 use Rattle.m386_state.specs.declared.proc.Proc.{Proc}
-use Rattle.m386_access.specs.After.{moved}
+use Rattle.m386_access.specs.After.{at_eip}
 use Rattle.m386_base.specs.Exceptions.{undefined_opcode_of}
 use Rattle.m386_access.specs.Ran.{plainly, ran}
 use Rattle.m386_access.specs.declared.ran.Ran.{Ran}
@@ -26,15 +26,15 @@ operation_phrase op p =
     else Faults undefined_opcode_of
 
 -- what an operation of an instruction that began in a state comes to: EIP is the instruction's again where a further turn follows
-abbrev pub ended : Op → Proc → Ran → Ran
-ended op before r = ran (behind_turn op before r.after) r.fault
+abbrev pub behind_operation : Op → Proc → Ran → Ran
+behind_operation op before r = ran (behind_turn op before r.after) r.fault
 
 -- An instruction of so many bytes, or a turn of one that is repeated.
 -- Source: Intel 80386 PRM 17.2.1, 3.6.1
 unfoldable pub decoded_phrase : Op → ℕ → Proc → Phrase Ran
 decoded_phrase op len p = do
-  r ← operation_phrase op (moved p ((p.eip + len) % 2 ^ 32))
-  Done (ended op p r)
+  r ← operation_phrase op (at_eip p ((p.eip + len) % 2 ^ 32))
+  Done (behind_operation op p r)
 
 -- The instruction at EIP.
 -- Source: Intel 80386 PRM 17.2.1

@@ -1,7 +1,7 @@
 //! The bytes of an instruction. No group is fetched twice in a step.
 ghost use Rattle.std.specs.Prelude.{◌≡◌, false, ◌+◌, ◌*◌, ◌%◌, ◌^◌};
 ghost use Rattle.m386_base.specs.Phrase.{Performs};
-ghost use Rattle.m386_step.specs.Fetch.{byte_phrase, group_phrase, byte_in, first_reader};
+ghost use Rattle.m386_step.specs.Fetch.{byte_phrase, group_phrase, byte_of_value, first_reader};
 
 use m386_base::ask::{Ask, Role, Space};
 use m386_base::bus::{Bus, cycle_or_fault};
@@ -45,7 +45,7 @@ pub fn reader_at(p: &Proc) -> Reader
 
 /// Byte `at % 4` of a group.
 fn byte_at(value: u32, at: u32) -> u8
-    ensures { result ≡ byte_in value at }
+    ensures { result ≡ byte_of_value value at }
 {
     (value >> (8 * (at % 4)) & 0xff) as u8
 }

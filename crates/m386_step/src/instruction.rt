@@ -2,11 +2,11 @@
 ghost use Rattle.std.specs.Prelude.{◌≡◌, false, OnErr};
 ghost use Rattle.m386_access.specs.Ran.{ran};
 ghost use Rattle.m386_base.specs.Phrase.{Performs, it};
-ghost use Rattle.m386_step.specs.Instruction.{operation_phrase, ended, decoded_phrase, instruction_phrase};
+ghost use Rattle.m386_step.specs.Instruction.{operation_phrase, behind_operation, decoded_phrase, instruction_phrase};
 
 use crate::code::fetch_operation;
 use crate::fetch::reader_at;
-use m386_access::after::moved;
+use m386_access::after::at_eip;
 use m386_access::ran::Ran;
 use m386_base::bus::Bus;
 use m386_base::exception::undefined_opcode;
@@ -48,8 +48,8 @@ fn perform<B: Bus>(p: &mut Proc, op: &Op, bus: &mut B) -> Result<Option<Fault>, 
 
 /// What an operation of an instruction that began in a state comes to: EIP is the instruction's again where a further turn
 /// follows.
-fn ended(op: &Op, before: &Proc, after: &Proc, fault: Option<Fault>) -> Ran
-    ensures { result ≡ ended op.now before.now (ran after.now fault) }
+fn behind_operation(op: &Op, before: &Proc, after: &Proc, fault: Option<Fault>) -> Ran
+    ensures { result ≡ behind_operation op.now before.now (ran after.now fault) }
 {
     Ran {
         after: behind_turn(op, before, after),
@@ -64,9 +64,9 @@ fn execute<B: Bus>(op: &Op, len: u8, p: &Proc, bus: &mut B) -> Result<Ran, Break
     ensures cycles { Performs (decoded_phrase op.now len p.now) (B.view bus.old) (B.view bus.new) it result }
     ensures free { (B.view bus.new).kept ≡ false }
 {
-    let mut after = moved(p, p.eip.wrapping_add(u32::from(len)));
+    let mut after = at_eip(p, p.eip.wrapping_add(u32::from(len)));
     let fault = perform(&mut after, op, bus)?;
-    Ok(ended(op, p, &after, fault))
+    Ok(behind_operation(op, p, &after, fault))
 }
 
 /// The instruction at EIP. One that isn't built is #UD, behind its last byte.

@@ -8,7 +8,7 @@ use Rattle.m386_opmap.specs.declared.op.Op.{Op}
 use Rattle.m386_opmap.specs.declared.op.Rep.{Rep}
 use Rattle.m386_opmap.specs.declared.op.Rep.TheVariants.{Once, Equal, NotEqual}
 use Rattle.m386_state.specs.declared.proc.Proc.{Proc}
-use Rattle.m386_access.specs.After.{moved, register_of, with_register}
+use Rattle.m386_access.specs.After.{at_eip, register_of, with_register}
 use Rattle.m386_access.specs.Registers.{ecx}
 use Rattle.m386_access.specs.declared.operands.Operands.{Operands}
 use Rattle.m386_string.specs.Element.{element_of, element_phrase}
@@ -69,4 +69,4 @@ is_followed None rep before after = false
 -- where a further turn follows.
 -- Source: Intel 80386 PRM 3.6.1, 9.2
 unfoldable pub behind_turn : Op → Proc → Proc → Proc
-behind_turn op before after = if is_followed (element_of op.name) op.rep before after then moved after before.eip else after
+behind_turn op before after = if is_followed (element_of op.name) op.rep before after then at_eip after before.eip else after

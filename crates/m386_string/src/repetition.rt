@@ -4,7 +4,7 @@ ghost use Rattle.m386_base.specs.Phrase.{Performs, it};
 ghost use Rattle.m386_string.specs.Repetition.{lowered, counted_phrase, repeated_phrase, string_phrase, goes_on_with, is_repeated, goes_on, is_followed, behind_turn};
 
 use crate::element::{Element, do_element, element_of};
-use m386_access::after::{moved, register_of, with_register};
+use m386_access::after::{at_eip, register_of, with_register};
 use m386_access::operands::Operands;
 use m386_access::registers::ECX;
 use m386_base::bus::Bus;
@@ -132,7 +132,7 @@ pub fn behind_turn(op: &Op, before: &Proc, after: &Proc) -> Proc
     ensures { result ≡ behind_turn op.now before.now after.now }
 {
     if is_followed(element_of(op.name), op.rep, before, after) {
-        moved(after, before.eip)
+        at_eip(after, before.eip)
     } else {
         *after
     }

@@ -6,6 +6,6 @@ ghost use Rattle.m386_system.specs.Exec.{exec_phrase};
 
 /// Each operation is an ordinary one that makes no cycle.
 #[tactic(auto, using(crate::proofs::Plain::exec_plain))]
-pub fn operations_are_plain()
+pub fn system_operations_are_plain()
     ensures { (op : OpRecord) (p : ProcRecord) → PlainFrom 0 p (exec_phrase op p) }
 {}

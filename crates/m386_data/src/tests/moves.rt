@@ -5,8 +5,8 @@ use super::{
 use m386_base::exception::{Exception, general_protection};
 use m386_base::number::Width::{W8, W16, W32};
 use m386_opmap::name::Name;
-use m386_opmap::op::Addr;
 use m386_opmap::op::Arg::{Imm, Mem, Reg};
+use m386_opmap::op::{Addr, Arg};
 
 #[test]
 fn moves(rt: HostRuntime) {
@@ -127,6 +127,17 @@ fn exchanges(rt: HostRuntime) {
     );
 }
 
+/// Memory four bytes before the offset in EBX, with a segment prefix or without.
+fn before_ebx(seg: Option<u8>) -> Arg {
+    Mem(Addr {
+        seg,
+        base: Some(3),
+        index: None,
+        scale: 1,
+        disp: 0xffff_fffc,
+    })
+}
+
 #[test]
 fn addresses(rt: HostRuntime) {
     let p = bare();
@@ -157,31 +168,21 @@ fn addresses(rt: HostRuntime) {
     }
     // 14h + FFFFFFFCh goes round to 10h, past a limit of Fh in DS, and is reached through SS.
     let pointed = in_segment(&loaded(&p, 3, 0x14), 0x93, 0xf);
+    comes_to(
+        &rt,
+        words(Name::Mov, W8, &[Reg(0), before_ebx(None)]),
+        &pointed,
+        &[],
+        Err(general_protection()),
+    );
     let cycles = [read(0, 0x10, 1, 0x11)];
-    for (seg, end) in [
-        (None, Err(general_protection())),
-        (Some(2), Ok(loaded(&pointed, 0, 0xa0a1_a211))),
-    ] {
-        let address = Mem(Addr {
-            seg,
-            base: Some(3),
-            index: None,
-            scale: 1,
-            disp: 0xffff_fffc,
-        });
-        let made = if seg.is_some() {
-            cycles.as_slice()
-        } else {
-            &cycles[1..]
-        };
-        comes_to(
-            &rt,
-            words(Name::Mov, W8, &[Reg(0), address]),
-            &pointed,
-            made,
-            end,
-        );
-    }
+    comes_to(
+        &rt,
+        words(Name::Mov, W8, &[Reg(0), before_ebx(Some(2))]),
+        &pointed,
+        &cycles,
+        Ok(loaded(&pointed, 0, 0xa0a1_a211)),
+    );
     // FFFFFF6Dh + A3h goes round to 10h.
     let table = loaded(&p, 3, 0xffff_ff6d);
     let cycles = [read(0, 0x10, 1, 0x11)];
@@ -252,26 +253,26 @@ fn bytes_on_a_condition(rt: HostRuntime) {
         &cycles,
         Ok(flagged(&p, 3)),
     );
-    // SF without OF, and no ZF.
-    for (name, byte) in [
-        (Name::Seto, 0_u32),
-        (Name::Setno, 1),
-        (Name::Setb, 0),
-        (Name::Setae, 1),
-        (Name::Sete, 0),
-        (Name::Setne, 1),
-        (Name::Setbe, 0),
-        (Name::Seta, 1),
-        (Name::Sets, 1),
-        (Name::Setns, 0),
-        (Name::Setp, 0),
-        (Name::Setnp, 1),
-        (Name::Setl, 1),
-        (Name::Setge, 0),
-        (Name::Setle, 1),
-        (Name::Setg, 0),
+    // SF without OF, and no ZF: DH is 0 or 1 afterwards.
+    for (name, edx) in [
+        (Name::Seto, 0xd0d1_00d3_u32),
+        (Name::Setno, 0xd0d1_01d3),
+        (Name::Setb, 0xd0d1_00d3),
+        (Name::Setae, 0xd0d1_01d3),
+        (Name::Sete, 0xd0d1_00d3),
+        (Name::Setne, 0xd0d1_01d3),
+        (Name::Setbe, 0xd0d1_00d3),
+        (Name::Seta, 0xd0d1_01d3),
+        (Name::Sets, 0xd0d1_01d3),
+        (Name::Setns, 0xd0d1_00d3),
+        (Name::Setp, 0xd0d1_00d3),
+        (Name::Setnp, 0xd0d1_01d3),
+        (Name::Setl, 0xd0d1_01d3),
+        (Name::Setge, 0xd0d1_00d3),
+        (Name::Setle, 0xd0d1_01d3),
+        (Name::Setg, 0xd0d1_00d3),
     ] {
-        let after = loaded(&less, 2, 0xd0d1_00d3 + 256 * byte);
+        let after = loaded(&less, 2, edx);
         comes_to(&rt, words(name, W8, &[Reg(6)]), &less, &[], Ok(after));
     }
 }
