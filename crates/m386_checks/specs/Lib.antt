@@ -1,3 +1,4 @@
+pub mod Descriptor
 pub mod First
 pub mod Holds
 pub mod Table

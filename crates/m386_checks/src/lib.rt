@@ -1,6 +1,7 @@
 //! The checks that a task switch makes, as one table in order.
 #![tactic(auto)]
 
+pub mod descriptor;
 pub mod facts;
 pub mod first;
 mod holds;
