@@ -1,3 +1,5 @@
 pub mod Bytes
+pub mod Loads
 pub mod Loops
 pub mod Order
+pub mod Words

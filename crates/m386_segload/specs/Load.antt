@@ -1,5 +1,5 @@
 -- Descriptors read by their selectors, tested by a table, and taken.
-use Rattle.std.specs.Prelude.{ℕ, Bool, true, false, List, ◌==◌, if◌then◌else◌, bit_or, bit_and, Option, Some, None}
+use Rattle.std.specs.Prelude.{ℕ, Bool, List, ◌==◌, if◌then◌else◌, bit_or, bit_and, Option, Some, None}
 use Rattle.m386_base.specs.declared.ask.Role.{Role}
 use Rattle.m386_base.specs.declared.desc.Desc.{Desc}
 use Rattle.m386_base.specs.declared.fault.Fault.{Fault}

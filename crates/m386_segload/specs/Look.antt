@@ -1,5 +1,5 @@
 -- What LAR, LSL, VERR and VERW find.
-use Rattle.std.specs.Prelude.{ℕ, Bool, ◌+◌, ◌*◌, ◌^◌, ◌&&◌, if◌then◌else◌, is_some, Option, Some, None}
+use Rattle.std.specs.Prelude.{ℕ, Bool, ◌+◌, ◌*◌, ◌^◌, ◌&&◌, if◌then◌else◌, Option, Some, None}
 use Rattle.m386_base.specs.declared.desc.Desc.{Desc}
 use Rattle.m386_base.specs.Phrase.{Phrase, Done, ◌>>=◌}
 use Rattle.m386_desc.specs.Offsets.{limit_of}

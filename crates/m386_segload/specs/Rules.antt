@@ -1,5 +1,5 @@
 -- The tables of rules, each with its exception and whether the error code names the selector, and their one reader.
-use Rattle.std.specs.Prelude.{ℕ, Bool, true, false, List, [], ◌∷◌, if◌then◌else◌, Option, Some, None}
+use Rattle.std.specs.Prelude.{Bool, true, false, List, [], ◌∷◌, if◌then◌else◌, Option, Some, None}
 use Rattle.m386_base.specs.declared.exception.Exception.{Exception}
 use Rattle.m386_base.specs.declared.exception.Exception.TheVariants.{InvalidTss, SegmentNotPresent, StackFault, GeneralProtection}
 use Rattle.m386_base.specs.declared.fault.Fault.{Fault}
