@@ -106,7 +106,7 @@ keeps_task p us ts after w k = subst (λ x. KeepsTask p x after) (sym w.1) (reco
 calm_operation : (op : Op) (p : Proc) (ts : List Ask) → Calm (λ us (r : Ran). KeepsTask p us r.after) ts (operation_phrase op p)
 unfolding Within
 calm_operation op p ts =
-    plain_obeys 8 (Ordinary p.gdtr) (KeepsRan p) NoSwitch with_cycle (λ us (r : Ran). KeepsTask p us r.after) AnyFault Within
+    plain_obeys 160 (Ordinary p.gdtr) (KeepsRan p) NoSwitch with_cycle (λ us (r : Ran). KeepsTask p us r.after) AnyFault Within
     (λ us s q t w o m. (rw (← matches-role q t m) (ordinary_no_switch p.gdtr us q o), within_more us s q t m w))
     (λ us s r w k. keeps_task p us s r.after w k)
     (λ us s f w. tt)

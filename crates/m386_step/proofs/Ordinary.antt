@@ -35,19 +35,19 @@ plain_plainly m n p t l h = plain_bind m n (Ordinary p.gdtr) (Keeps p) (KeepsRan
 within : (m n : ℕ) (p : Proc) (t : Phrase Ran) → nat_le m n ≡ true → PlainRanFrom m p t → PlainRanFrom n p t
 within m n p t l h = plain_within m n (Ordinary p.gdtr) (KeepsRan p) [] t (grind (arith, l)) h
 
--- each crate, one line
-pub plain_operation : (op : Op) (p : Proc) → PlainRanFrom 8 p (operation_phrase op p)
+-- Each crate, one line. The longest operation, a far CALL through a gate with 31 doublewords to copy, makes 154 cycles.
+pub plain_operation : (op : Op) (p : Proc) → PlainRanFrom 160 p (operation_phrase op p)
 unfolding operation_phrase
 plain_operation op p =
-    plain_if 8 (Ordinary p.gdtr) (KeepsRan p) [] (data_specs.takes op) _ _ (plain_plainly 8 8 p _ refl (data_laws.exec_plain op p))
-    (plain_if 8 (Ordinary p.gdtr) (KeepsRan p) [] (gates_specs.takes op) _ _ (within 0 8 p _ refl (gates_laws.exec_plain op p))
-    (plain_if 8 (Ordinary p.gdtr) (KeepsRan p) [] (string_specs.takes op) _ _ (plain_plainly 4 8 p _ refl (string_laws.exec_plain op p))
-    (plain_if 8 (Ordinary p.gdtr) (KeepsRan p) [] (system_specs.takes op) _ _ (plain_plainly 0 8 p _ refl (system_laws.exec_plain op p))
-    (plain_faults 8 (Ordinary p.gdtr) (KeepsRan p) [] _))))
+    plain_if 160 (Ordinary p.gdtr) (KeepsRan p) [] (data_specs.takes op) _ _ (plain_plainly 8 160 p _ refl (data_laws.exec_plain op p))
+    (plain_if 160 (Ordinary p.gdtr) (KeepsRan p) [] (gates_specs.takes op) _ _ (within 0 160 p _ refl (gates_laws.exec_plain op p))
+    (plain_if 160 (Ordinary p.gdtr) (KeepsRan p) [] (string_specs.takes op) _ _ (plain_plainly 4 160 p _ refl (string_laws.exec_plain op p))
+    (plain_if 160 (Ordinary p.gdtr) (KeepsRan p) [] (system_specs.takes op) _ _ (plain_plainly 0 160 p _ refl (system_laws.exec_plain op p))
+    (plain_faults 160 (Ordinary p.gdtr) (KeepsRan p) [] _))))
 
 -- It makes few cycles.
-pub short_operation : (op : Op) (p : Proc) → AtMost 8 (operation_phrase op p)
-short_operation op p = plain_at_most 8 (Ordinary p.gdtr) (KeepsRan p) [] (operation_phrase op p) (plain_operation op p)
+pub short_operation : (op : Op) (p : Proc) → AtMost 160 (operation_phrase op p)
+short_operation op p = plain_at_most 160 (Ordinary p.gdtr) (KeepsRan p) [] (operation_phrase op p) (plain_operation op p)
 
 reads_no_code : (role : Role) → is_read_role role ≡ true → (role_number role == role_number Fetch) ≡ false
 reads_no_code Fetch h = cc
@@ -73,4 +73,4 @@ none_plain gdt zero ends us (Asks q k) h = absurd h
 none_plain gdt (suc n) ends us (Asks q k) h = (ordinary_fetches_none gdt us q h.0, λ v. none_plain gdt n ends (cycle_of q v ∷ us) (k v) (h.1 v))
 
 pub none_operation : (op : Op) (p : Proc) → FetchesNone (operation_phrase op p)
-none_operation op p = none_plain p.gdtr 8 (KeepsRan p) [] (operation_phrase op p) (plain_operation op p)
+none_operation op p = none_plain p.gdtr 160 (KeepsRan p) [] (operation_phrase op p) (plain_operation op p)

@@ -43,13 +43,13 @@ short_decode : (r : Reader) → AtMost 15 (decode_phrase r)
 unfolding decode_phrase
 short_decode r = short_further 15 [] r
 
-short_instruction : (p : Proc) → AtMost 23 (instruction_phrase p)
+short_instruction : (p : Proc) → AtMost 175 (instruction_phrase p)
 unfolding instruction_phrase decoded_phrase
-short_instruction p = at_most_then 15 8 _ _ (short_decode (first_reader p)) (λ d. at_most_then 8 0 _ _ (short_operation d.op _) (λ r. tt))
+short_instruction p = at_most_then 15 160 _ _ (short_decode (first_reader p)) (λ d. at_most_then 160 0 _ _ (short_operation d.op _) (λ r. tt))
 
 short_running : (p : Proc) → AtMost 192 (running_phrase p)
 unfolding running_phrase
-short_running p = at_most_either 23 169 _ _ _ (short_instruction p) (λ a. tt) (λ f. tt)
+short_running p = at_most_either 175 17 _ _ _ (short_instruction p) (λ a. tt) (λ f. tt)
 
 short_turn : (m : Mode) (p : Proc) → AtMost 192 (turn_phrase m p)
 short_turn Running p = short_running p
