@@ -1,5 +1,6 @@
 pub mod Numbers
 pub mod Sections
+pub mod Plans
 pub mod Judging
 pub mod Valid
 pub mod Filling

@@ -7,8 +7,10 @@ use Rattle.std.proofs.lemmas.List.{append-nil, length-append, length-drop, drop_
 use Rattle.std.proofs.lemmas.List.FromFn.{fill_by_all, length-map-range_with_len, get_or-map-range_with_len}
 use Rattle.std.proofs.lemmas.Nat.{from_le_bytes-to_le_bytes_2, from_le_bytes-to_le_bytes_4}
 use Rattle.m386_image.specs.declared.image.Image.{Image}
+use Rattle.m386_image.specs.declared.image.Planned.{Planned}
 use Rattle.m386_image.specs.declared.image.TableAt.{TableAt}
-use Rattle.m386_image.specs.Format.{AreBytes, u16_at, u32_at, u16_bytes, u32_bytes, cpus_of, starts_of, start_word, plan_end, section_text, HasText, ArePlaced, IsMemorySize, IsCpuCount, ImageOf, IsValid, head_text, tables_text, counts_text, image_text}
+use Rattle.m386_image.specs.Format.{AreBytes, u16_at, u32_at, u16_bytes, u32_bytes, cpus_of, starts_of, start_word, entry_at, entries, entry_text, plan_count, plan_in, plan_end, section_text, HasText, ArePlaced, IsMemorySize, IsCpuCount, ImageOf, IsValid, head_text, tables_text, counts_text, image_text}
+use Rattle.m386_image.proofs.Plans.{length-entries, StepsFit, entries_fit, length-plan_text, entries-plan_text}
 use Rattle.m386_image.proofs.Numbers.{AreBytes-drop, u16_at_lt, u32_at_lt, u32_at-drop, u32_at-bytes, length-u32_bytes}
 
 -- ---- what holds of a valid image
@@ -22,18 +24,23 @@ valid_cpus image v = subst IsCpuCount (sym v.1.cpus) v.1.header.cpus
 pub valid_flags : (image : Image) → IsValid image → image.flags ≡ 0
 valid_flags image v = v.1.flags ∙ v.1.header.flags
 
-pub valid_plan : (image : Image) → IsValid image → image.plan ≡ []
-valid_plan image v = v.1.no_plan
-
 pub valid_placed : (image : Image) → IsValid image → ArePlaced 0 image.memory image.sections
 valid_placed image v = v.1.placed
 
 pub valid_sections : (image : Image) → IsValid image → AllByRecursion HasText image.sections
 valid_sections image v = v.1.sections.sections.text
 
+planned_count : (bytes : List ℕ) (image : Image) → ImageOf bytes image → length image.plan ≡ plan_count bytes
+unfolding plan_in
+planned_count bytes image i = ap length i.plan ∙ length-entries (plan_count bytes) (drop 64 bytes)
+
+valid_steps : (image : Image) → IsValid image → StepsFit image.plan
+unfolding plan_in
+valid_steps image v = subst StepsFit (sym v.1.plan) (entries_fit (plan_count v.0) (drop 64 v.0) (AreBytes-drop 64 v.0 v.1.are_bytes))
+
 pub valid_counts : (image : Image) → IsValid image → (length image.plan < 2 ^ 32) × (length image.sections < 2 ^ 32)
 valid_counts image v =
-    (omega (arith, v.1.planned, u32_at_lt 24 v.0 v.1.are_bytes), omega (arith, v.1.sections.sections.count, u32_at_lt 28 v.0 v.1.are_bytes))
+    (omega (arith, planned_count v.0 image v.1, u32_at_lt 24 v.0 v.1.are_bytes), omega (arith, v.1.sections.sections.count, u32_at_lt 28 v.0 v.1.are_bytes))
 
 -- the starts of the bytes, one by one
 get_or-starts_of : (bytes : List ℕ) (k : ℕ) → k < 8 → get_or (starts_of bytes) k 0 ≡ start_word bytes k
@@ -79,7 +86,7 @@ pub record HasWords (image : Image) (text : List ℕ) : Type 0 where
   pub idt_base : u32_at 20 text ≡ image.idt.base
   pub planned : u32_at 24 text ≡ length image.plan
   pub sections : u32_at 28 text ≡ length image.sections
-  pub rest : drop 32 text ≡ flat_map u32_bytes image.starts ++ flat_map section_text image.sections
+  pub rest : drop 32 text ≡ flat_map u32_bytes image.starts ++ (flat_map entry_text image.plan ++ flat_map section_text image.sections)
 
 -- the numbers of an image fit their places
 pub record NumbersFit (image : Image) : Type 0 where
@@ -105,7 +112,7 @@ has_words image f = record {
   idt_base = from_le_bytes-to_le_bytes_4 image.idt.base f.idt_base;
   planned = from_le_bytes-to_le_bytes_4 (length image.plan) f.planned;
   sections = from_le_bytes-to_le_bytes_4 (length image.sections) f.sections;
-  rest = refl;
+  rest = append_assoc (flat_map u32_bytes image.starts) (flat_map entry_text image.plan) (flat_map section_text image.sections);
 }
 
 valid_fits : (image : Image) → IsValid image → NumbersFit image
@@ -142,7 +149,7 @@ valid_start_lt image v k =
 text_start : (image : Image) (v : IsValid image) (text : List ℕ) → HasWords image text → (k : ℕ) → k < 8 → get_or image.starts k 0 ≡ start_word text k
 text_start image v text w k lt =
     let is : u32_at (32 + 4 * k) text ≡ get_or image.starts k 0 =
-    sym (u32_at-drop 32 (4 * k) text) ∙ ap (u32_at (4 * k)) w.rest ∙ u32_at-words image.starts (flat_map section_text image.sections) k (omega (arith, valid_starts image v)) (valid_start_lt image v) in
+    sym (u32_at-drop 32 (4 * k) text) ∙ ap (u32_at (4 * k)) w.rest ∙ u32_at-words image.starts (flat_map entry_text image.plan ++ flat_map section_text image.sections) k (omega (arith, valid_starts image v)) (valid_start_lt image v) in
     elim (cases_lt k image.cpus) [
       | inl here ↦ let t : ltb k image.cpus ≡ true = lt-ltb k image.cpus here in rw (w.cpus, t, is) refl
       | inr past ↦
@@ -209,6 +216,17 @@ tables_bytes image = both (both (both (of_u32 image.gdt.base) (of_u16 image.gdt.
 counts_bytes : (image : Image) → IsOfBytes (counts_text image)
 counts_bytes image = both (of_u32 (length image.plan)) (of_u32 (length image.sections))
 
+entries_bytes : (n : ℕ) (bytes : List ℕ) → AreBytes bytes → AreBytes (flat_map entry_text (entries n bytes))
+unfolding entries
+entries_bytes zero bytes h = nil_bytes
+entries_bytes (suc n) bytes h =
+    let numbers : IsOfBytes (get_or bytes 4 0 ∷ get_or bytes 5 0 ∷ 0 ∷ 0 ∷ []) = record { bytes = listed_bytes (get_or bytes 4 0 ∷ get_or bytes 5 0 ∷ 0 ∷ 0 ∷ []) (h 4, (h 5, (lit< tt, (lit< tt, tt)))) } in
+    append_bytes (entry_text (entry_at bytes)) _ (both (of_u32 (u32_at 0 bytes)) numbers).bytes (entries_bytes n (drop 8 bytes) (AreBytes-drop 8 bytes h))
+
+plan_bytes : (image : Image) → IsValid image → IsOfBytes (flat_map entry_text image.plan)
+unfolding plan_in
+plan_bytes image v = record { bytes = subst (λ (es : List Planned). AreBytes (flat_map entry_text es)) (sym v.1.plan) (entries_bytes (plan_count v.0) (drop 64 v.0) (AreBytes-drop 64 v.0 v.1.are_bytes)) }
+
 text_bytes : (image : Image) → IsValid image → IsOfBytes (image_text image)
 unfolding image_text
 text_bytes image v =
@@ -216,36 +234,39 @@ text_bytes image v =
     let parts : drop (plan_end v.0) v.0 ≡ texts = v.1.sections.sections.parts ∙ append-nil texts in
     let sections : IsOfBytes texts = record { bytes = subst AreBytes parts (AreBytes-drop (plan_end v.0) v.0 v.1.are_bytes) } in
     let starts : IsOfBytes (flat_map u32_bytes image.starts) = record { bytes = words_bytes image.starts } in
-    both (both (both (both (machine_bytes image v) (tables_bytes image)) (counts_bytes image)) starts) sections
+    both (both (both (both (both (machine_bytes image v) (tables_bytes image)) (counts_bytes image)) starts) (plan_bytes image v)) sections
 
 pub text_is_image : (image : Image) → IsValid image → ImageOf (image_text image) image
+unfolding plan_in
 text_is_image image v =
     let text = image_text image in
     let w = has_words image (valid_fits image v) in
-    let none : length image.plan ≡ 0 = ap length (valid_plan image v) in
-    let place : plan_end text ≡ 64 = omega (arith, w.planned, none) in
     let words = flat_map u32_bytes image.starts in
+    let planned = flat_map entry_text image.plan in
     let texts = flat_map section_text image.sections in
+    let place : plan_end text ≡ 64 + length planned = omega (arith, w.planned, length-plan_text image.plan) in
     let len : length words ≡ 32 = omega (arith, length-words image.starts, valid_starts image v) in
-    let behind : drop 64 text ≡ texts = sym (drop-drop 32 32 text) ∙ ap (drop 32) w.rest ∙ drop_at words texts 32 len in
-    let long : 64 ≤ length text = omega (arith, length-drop 32 text, ap length w.rest, length-append words texts) in
+    let behind : drop 64 text ≡ planned ++ texts = sym (drop-drop 32 32 text) ∙ ap (drop 32) w.rest ∙ drop_at words (planned ++ texts) 32 len in
+    let last : drop (64 + length planned) text ≡ texts = sym (drop-drop (length planned) 64 text) ∙ ap (drop (length planned)) behind ∙ drop_at planned texts (length planned) refl in
+    let long : 64 + length planned ≤ length text = omega (arith, length-drop 32 text, ap length w.rest, length-append words (planned ++ texts), length-append planned texts) in
+    let read : entries (plan_count text) (drop 64 text) ≡ image.plan = ap (λ (n : ℕ). entries n (drop 64 text)) w.planned ∙ ap (entries (length image.plan)) behind ∙ entries-plan_text image.plan texts (valid_steps image v) in
     record {
       are_bytes = (text_bytes image v).bytes;
-      header = record { long = long; magic = w.magic; version = w.version; memory = rw w.memory (valid_memory image v); cpus = rw w.cpus (valid_cpus image v); flags = w.flags ∙ valid_flags image v };
+      header = record { long = omega (arith, long); magic = w.magic; version = w.version; memory = rw w.memory (valid_memory image v); cpus = rw w.cpus (valid_cpus image v); flags = w.flags ∙ valid_flags image v };
       memory = sym w.memory;
       cpus = sym w.cpus;
       flags = sym w.flags;
       gdt = λ t. record { base = (sym w.gdt_base) t; limit = (sym w.gdt_limit) t };
       idt = λ t. record { base = (sym w.idt_base) t; limit = (sym w.idt_limit) t };
       starts = starts_from text image.starts (valid_starts image v) (text_start image v text w);
-      planned = sym w.planned;
-      no_plan = valid_plan image v;
+      plan = sym read;
+      ordered = v.1.ordered;
       sections = record {
-        plan = omega arith;
+        plan = omega (arith, place, long);
         sections = record {
           count = sym w.sections;
           text = valid_sections image v;
-          parts = ap (λ (n : ℕ). drop n text) place ∙ behind ∙ sym (append-nil texts);
+          parts = ap (λ (n : ℕ). drop n text) place ∙ last ∙ sym (append-nil texts);
         };
       };
       placed = valid_placed image v;

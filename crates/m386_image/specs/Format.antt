@@ -1,8 +1,9 @@
 -- The image file: the places of its fields, and the image that its bytes are.
-use Rattle.std.specs.Prelude.{◌≡◌, ℕ, ◌+◌, ◌*◌, ◌%◌, ◌^◌, ◌<◌, ◌≤◌, if◌then◌else◌, nat_lt, List, [], ◌∷◌, ◌++◌, length, take, drop, map, slice_index, codes}
+use Rattle.std.specs.Prelude.{◌≡◌, ℕ, zero, suc, Bool, true, ◌&&◌, nat_le, ◌+◌, ◌*◌, ◌%◌, ◌^◌, ◌<◌, ◌≤◌, if◌then◌else◌, nat_lt, List, [], ◌∷◌, ◌++◌, length, take, drop, map, slice_index, codes}
 use Rattle.std.specs.Int.{w16, w32, to_le_bytes, from_le_bytes}
 use Rattle.std.specs.List.{flat_map, range_with_len, AllByRecursion}
 use Rattle.m386_image.specs.declared.image.Image.{Image}
+use Rattle.m386_image.specs.declared.image.Planned.{Planned}
 use Rattle.m386_image.specs.declared.image.TableAt.{TableAt}
 use Rattle.m386_image.specs.declared.image.Section.{Section}
 
@@ -98,6 +99,31 @@ pub record TakesAll (n : ℕ) (bytes : List ℕ) (ss : List Section) (rest : Lis
   pub text : AllByRecursion HasText ss
   pub parts : bytes ≡ flat_map section_text ss ++ rest
 
+-- The entry of the plan that bytes begin with: its step, its processor, its vector, and two bytes that are ignored.
+-- Own choice: docs/DECISIONS.md, "The image file"
+abbrev pub entry_at : List ℕ → Planned
+entry_at bytes = record { step = u32_at 0 bytes; cpu = slice_index bytes 4; vector = slice_index bytes 5 }
+
+-- so many entries, end to end
+unfoldable pub entries : ℕ → List ℕ → List Planned
+entries zero bytes = []
+entries (suc n) bytes = entry_at bytes ∷ entries n (drop 8 bytes)
+
+-- The plan, which stands behind the header.
+-- Own choice: docs/DECISIONS.md, "The image file"
+unfoldable pub plan_in : List ℕ → List Planned
+plan_in bytes = entries (plan_count bytes) (drop 64 bytes)
+
+-- an entry's place in the order: by its processor, and then by its step
+abbrev pub place_in_order : Planned → ℕ
+place_in_order e = e.cpu * 2 ^ 32 + e.step
+
+-- The entries are of processors that there are, and their places rise; the first has this place or one behind it.
+-- Own choice: docs/DECISIONS.md, "The image file"
+unfoldable pub are_ordered : ℕ → ℕ → List Planned → Bool
+are_ordered cpus place [] = true
+are_ordered cpus place (e ∷ es) = nat_lt e.cpu cpus && (nat_le place (place_in_order e) && are_ordered cpus (place_in_order e + 1) es)
+
 -- the place behind the plan, whose entries have eight bytes each
 abbrev pub plan_end : List ℕ → ℕ
 plan_end bytes = 64 + 8 * plan_count bytes
@@ -126,7 +152,7 @@ pub record HasHeader (bytes : List ℕ) : Type 0 where
   pub cpus : IsCpuCount (cpus_of bytes)
   pub flags : flags_of bytes ≡ 0
 
--- The image that these bytes are. Until plans are built the plan is empty.
+-- The image that these bytes are.
 -- Own choice: docs/DECISIONS.md, "The image file"
 pub record ImageOf (bytes : List ℕ) (image : Image) : Type 0 where
   pub are_bytes : AreBytes bytes
@@ -137,8 +163,8 @@ pub record ImageOf (bytes : List ℕ) (image : Image) : Type 0 where
   pub gdt : image.gdt ≡ gdt_of bytes
   pub idt : image.idt ≡ idt_of bytes
   pub starts : image.starts ≡ starts_of bytes
-  pub planned : length image.plan ≡ plan_count bytes
-  pub no_plan : image.plan ≡ []
+  pub plan : image.plan ≡ plan_in bytes
+  pub ordered : are_ordered image.cpus 0 image.plan ≡ true
   pub sections : HasSections bytes image.sections []
   pub placed : ArePlaced 0 image.memory image.sections
 
@@ -158,7 +184,11 @@ tables_text image = u32_bytes image.gdt.base ++ u16_bytes image.gdt.limit ++ u16
 abbrev pub counts_text : Image → List ℕ
 counts_text image = u32_bytes (length image.plan) ++ u32_bytes (length image.sections)
 
--- The bytes that are written for an image: of all bytes that are the image those with 0 in each ignored word.
+-- an entry of the plan
+abbrev pub entry_text : Planned → List ℕ
+entry_text e = u32_bytes e.step ++ (e.cpu ∷ e.vector ∷ 0 ∷ 0 ∷ [])
+
+-- The bytes that are written for an image: of all bytes that are the image those with 0 in each ignored word and byte.
 -- Own choice: docs/DECISIONS.md, "The image file"
 unfoldable pub image_text : Image → List ℕ
-image_text image = head_text image ++ tables_text image ++ counts_text image ++ flat_map u32_bytes image.starts ++ flat_map section_text image.sections
+image_text image = head_text image ++ tables_text image ++ counts_text image ++ flat_map u32_bytes image.starts ++ flat_map entry_text image.plan ++ flat_map section_text image.sections

@@ -22,7 +22,8 @@ pub enum ImageFault {
     Flags,
     /// The bytes end within the plan entries and sections that the header counts.
     Truncated,
-    /// The plan has an entry. Until plans are built there is no order that would do.
+    /// An entry of the plan is of a processor that there is not, or doesn't come behind the entry before it: by processor, and
+    /// then by step.
     PlanOrder,
     /// A section ends past the memory, or begins below the end of the section before it.
     Section,

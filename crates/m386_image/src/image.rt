@@ -18,7 +18,7 @@ pub struct Image {
     /// Where each processor starts: the EIP of a bare processor, or the selector of a task state segment in the low 16
     /// bits. For a processor that there is not it is 0.
     pub starts: [u32; 8],
-    /// The interrupts that come from outside. Until plans are built there are none.
+    /// The interrupts that come from outside, rising by processor, and those of one processor by step.
     pub plan: List<Planned>,
     /// What stands in memory at the start, rising and apart. Every other byte is 0.
     pub sections: List<Section>,

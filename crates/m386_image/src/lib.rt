@@ -5,6 +5,7 @@ pub mod fault;
 pub mod image;
 pub mod laws;
 mod number;
+mod plan;
 pub mod reading;
 mod section;
 #[cfg(test)]

@@ -1,14 +1,15 @@
 //! An image from bytes.
 ghost use Rattle.std.specs.Prelude.{◌≡◌, ◌↔◌, ◌⊎◌, ◌<◌, ◌≤◌, length, Result, Ok, Err, IsTrue, IfOk, MatchResult};
 ghost use Rattle.m386_image.specs.Fault.{FirstFault};
-ghost use Rattle.m386_image.specs.Format.{IsMemorySize, HasHeader, ImageOf, plan_end, starts_of, start_word};
+ghost use Rattle.m386_image.specs.Format.{IsMemorySize, HasHeader, ImageOf, plan_end, cpus_of, plan_in, are_ordered, starts_of, start_word};
 ghost use Rattle.m386_image.specs.declared.fault.ImageFault.{ImageFault};
 ghost use Rattle.m386_image.specs.declared.fault.ReadStop.TheVariants.{Memory, Bad};
 ghost use Rattle.m386_image.specs.declared.image.Image.{Image};
 
 use crate::fault::{ImageFault, ReadStop};
-use crate::image::{Image, TableAt};
+use crate::image::{Image, Planned, TableAt};
 use crate::number::{read_u16, read_u32};
+use crate::plan::{is_ordered, plan_of};
 use crate::section::{sections_of, walk_sections};
 use m386_base::fault::NoMemory;
 use m386_base::list::List;
@@ -80,6 +81,28 @@ fn plan_end_of(bytes: &[u8]) -> usize
     HEADER + 8 * read_u32(bytes, PLAN_COUNT) as usize
 }
 
+/// Whether the plan's entries are of processors that there are, and rise.
+#[tactic(auto, unfolding(crate::specs::Format::plan_in))]
+fn is_plan_ordered(bytes: &[u8]) -> bool
+    requires header { HasHeader bytes.now }
+    requires room { plan_end bytes.now ≤ length bytes.now }
+    ensures { result ≡ are_ordered (cpus_of bytes.now) 0 (plan_in bytes.now) }
+{
+    let (_, behind) = bytes.split_at(HEADER);
+    is_ordered(behind, read_u32(bytes, PLAN_COUNT), bytes[CPUS])
+}
+
+/// The plan.
+#[tactic(auto, unfolding(crate::specs::Format::plan_in))]
+fn read_plan(alloc: Global, bytes: &[u8]) -> Result<List<Planned>, NoMemory>
+    requires header { HasHeader bytes.now }
+    requires room { plan_end bytes.now ≤ length bytes.now }
+    ensures { IfOk result (λ plan. plan ≡ plan_in bytes.now) }
+{
+    let (_, behind) = bytes.split_at(HEADER);
+    plan_of(alloc, behind, read_u32(bytes, PLAN_COUNT))
+}
+
 /// The faults of what follows the header.
 fn check_body(bytes: &[u8]) -> Result<(), ImageFault>
     requires { HasHeader bytes.now }
@@ -96,7 +119,7 @@ fn check_body(bytes: &[u8]) -> Result<(), ImageFault>
     ) else {
         return Err(ImageFault::Truncated);
     };
-    if at > HEADER {
+    if !is_plan_ordered(bytes) {
         return Err(ImageFault::PlanOrder);
     }
     if !walk.placed {
@@ -137,6 +160,7 @@ fn image_in(alloc: Global, bytes: &[u8]) -> Result<Image, NoMemory>
     ensures { IfOk result (ImageOf bytes.now) }
 {
     let at = plan_end_of(bytes);
+    let plan = read_plan(alloc, bytes)?;
     let sections = sections_of(alloc, &bytes[at..], read_u32(bytes, SECTION_COUNT))?;
     Ok(Image {
         memory: read_u32(bytes, MEMORY),
@@ -151,15 +175,14 @@ fn image_in(alloc: Global, bytes: &[u8]) -> Result<Image, NoMemory>
             limit: read_u16(bytes, IDT_LIMIT),
         },
         starts: read_starts(bytes),
-        plan: List::new(alloc),
+        plan,
         sections,
     })
 }
 
 /// The image that the bytes are, or the first of their faults. The work takes time in proportion to the bytes.
 ///
-/// Until a processor can start in a task a set flag bit is the fault `Flags`, and until plans are built a plan with an
-/// entry is the fault `PlanOrder`, each in its place in the order: bytes that end within such a plan are `Truncated`.
+/// Until a processor can start in a task a set flag bit is the fault `Flags`, in its place in the order.
 pub fn read_image(alloc: Global, bytes: &[u8]) -> Result<Image, ReadStop>
     ensures ok { IfOk result (ImageOf bytes.now) }
     // Bytes that are an image are read, unless memory runs out.

@@ -1,5 +1,5 @@
 use crate::fault::{ImageFault, ReadStop};
-use crate::image::TableAt;
+use crate::image::{Planned, TableAt};
 use crate::laws::{one_image, read_back};
 use crate::reading::read_image;
 use crate::writing::write_image;
@@ -123,10 +123,15 @@ static FAULTY: [(usize, &[(usize, u8)], &[u8], ImageFault); 58] = [
     (83, &[(6, 8), (7, 0x80), (28, 9)], &[], ImageFault::Flags),
     // A plan's entries have eight bytes each, and a section's head has eight.
     (64, &[(24, 1), (28, 0)], &[0; 7], ImageFault::Truncated),
-    (64, &[(24, 1), (28, 0)], &[0; 8], ImageFault::PlanOrder),
+    (
+        64,
+        &[(24, 1), (28, 0)],
+        &[0, 0, 0, 0, 1, 0, 0, 0],
+        ImageFault::PlanOrder,
+    ),
     (64, &[(24, 2), (28, 0)], &[0; 15], ImageFault::Truncated),
     (64, &[(24, 2), (28, 0)], &[0; 16], ImageFault::PlanOrder),
-    (64, &[(24, 1), (28, 0)], &[0; 9], ImageFault::PlanOrder),
+    (64, &[(24, 1), (28, 0)], &[0; 9], ImageFault::Trailing),
     (
         64,
         &[(24, 0), (27, 0x20), (28, 0)],
@@ -167,6 +172,108 @@ static FAULTY: [(usize, &[(usize, u8)], &[u8], ImageFault); 58] = [
     (64, &[(28, 0)], &[0], ImageFault::Trailing),
     (83, &[], &[0, 0x20, 0, 0, 0, 0, 0, 0], ImageFault::Trailing),
 ];
+
+/// Plans of two processors: how many entries, their bytes, and the fault: each is of a processor that there is, and comes behind the
+/// one before it by processor, and then by step.
+static PLANS: [(u8, &[u8], Option<ReadStop>); 12] = [
+    (1, &[0, 0, 0, 0, 0, 0, 0, 0], None),
+    (1, &[0xff, 0xff, 0xff, 0xff, 1, 0xff, 0, 0], None),
+    (
+        1,
+        &[0, 0, 0, 0, 2, 0, 0, 0],
+        Some(ReadStop::Bad(ImageFault::PlanOrder)),
+    ),
+    (
+        1,
+        &[0, 0, 0, 0, 0xff, 0, 0, 0],
+        Some(ReadStop::Bad(ImageFault::PlanOrder)),
+    ),
+    (2, &[1, 0, 0, 0, 0, 7, 0, 0, 2, 0, 0, 0, 0, 7, 0, 0], None),
+    (
+        2,
+        &[1, 0, 0, 0, 0, 7, 0, 0, 1, 0, 0, 0, 0, 8, 0, 0],
+        Some(ReadStop::Bad(ImageFault::PlanOrder)),
+    ),
+    (
+        2,
+        &[2, 0, 0, 0, 0, 7, 0, 0, 1, 0, 0, 0, 0, 8, 0, 0],
+        Some(ReadStop::Bad(ImageFault::PlanOrder)),
+    ),
+    (
+        2,
+        &[0, 0, 0, 0x80, 0, 7, 0, 0, 0, 0, 0, 0, 1, 7, 0, 0],
+        None,
+    ),
+    (
+        2,
+        &[0, 0, 0, 0, 1, 7, 0, 0, 9, 0, 0, 0, 0, 7, 0, 0],
+        Some(ReadStop::Bad(ImageFault::PlanOrder)),
+    ),
+    (
+        2,
+        &[0xff, 0, 0, 0, 0, 7, 0, 0, 0, 1, 0, 0, 0, 7, 0, 0],
+        None,
+    ),
+    (
+        2,
+        &[0, 1, 0, 0, 0, 7, 0, 0, 0xff, 0, 0, 0, 0, 7, 0, 0],
+        Some(ReadStop::Bad(ImageFault::PlanOrder)),
+    ),
+    (
+        3,
+        &[
+            0, 0, 0, 0, 0, 7, 0, 0, 0, 0, 0, 0, 1, 7, 0, 0, 0, 0, 0, 0, 2, 7, 0, 0,
+        ],
+        Some(ReadStop::Bad(ImageFault::PlanOrder)),
+    ),
+];
+
+#[test]
+fn a_plan_rises_by_processor_and_step(rt: HostRuntime) -> Result<(), Fail> {
+    for (count, entries, fault) in PLANS.iter().copied() {
+        let bytes = edited(rt.alloc(), 64, &[(6, 2), (24, count), (28, 0)], entries)?;
+        let stop = read_image(rt.alloc(), &bytes).err();
+        assert_eq!(rt; stop, fault, "{entries:?}");
+    }
+    Ok(())
+}
+
+/// Two entries, whose last two bytes are ignored, and a section behind them.
+const PLANNED: [u8; 25] = [
+    0x01, 0x02, 0x03, 0x04, 0x00, 0x61, 0x72, 0x83, 0x05, 0x06, 0x07, 0x08, 0x01, 0x94, 0xa5, 0xb6,
+    0x00, 0x20, 0x00, 0x00, 0x01, 0x00, 0x00, 0x00, 0xf4,
+];
+
+/// The same with zeros where bytes are ignored.
+const PLANNED_AND_CLEARED: [u8; 25] = [
+    0x01, 0x02, 0x03, 0x04, 0x00, 0x61, 0x00, 0x00, 0x05, 0x06, 0x07, 0x08, 0x01, 0x94, 0x00, 0x00,
+    0x00, 0x20, 0x00, 0x00, 0x01, 0x00, 0x00, 0x00, 0xf4,
+];
+
+#[test]
+fn each_field_of_an_entry_has_its_place(rt: HostRuntime) -> Result<(), Fail> {
+    let bytes = edited(rt.alloc(), 64, &[(6, 2), (24, 2)], &PLANNED)?;
+    let image = read_image(rt.alloc(), &bytes)?;
+    let wanted = [
+        Planned {
+            step: 0x0403_0201,
+            cpu: 0,
+            vector: 0x61,
+        },
+        Planned {
+            step: 0x0807_0605,
+            cpu: 1,
+            vector: 0x94,
+        },
+    ];
+    assert_eq!(rt; image.plan.as_slice(), wanted.as_slice());
+    assert_eq!(rt; image.sections.as_slice().len(), 1);
+    let again = read_back(rt.alloc(), &image)?;
+    let written = write_image(rt.alloc(), &again)?;
+    let cleared = edited(rt.alloc(), 64, &[(6, 2), (24, 2)], &PLANNED_AND_CLEARED)?;
+    assert_eq!(rt; written.as_slice(), cleared.as_slice());
+    Ok(())
+}
 
 #[test]
 fn tells_the_first_fault(rt: HostRuntime) -> Result<(), Fail> {

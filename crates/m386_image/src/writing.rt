@@ -1,9 +1,9 @@
 //! An image as bytes.
 ghost use Rattle.std.specs.Prelude.{◌≡◌, ◌++◌, ◌^◌, ◌<◌, length, OnOk, IfOk};
-ghost use Rattle.m386_image.specs.Format.{HasText, u16_bytes, u32_bytes, head_text, tables_text, counts_text, section_text, image_text, IsValid, ImageOf};
+ghost use Rattle.m386_image.specs.Format.{HasText, u16_bytes, u32_bytes, head_text, tables_text, counts_text, entry_text, section_text, image_text, IsValid, ImageOf};
 ghost use Rattle.std.specs.List.{flat_map, AllByRecursion};
 
-use crate::image::{Image, Section};
+use crate::image::{Image, Planned, Section};
 use byteorder::{ByteOrder, LittleEndian};
 use m386_base::fault::NoMemory;
 use std::alloc::Global;
@@ -73,6 +73,26 @@ fn put_starts(out: &mut Vec<u8>, starts: &[u32]) -> Result<(), NoMemory>
     Ok(())
 }
 
+/// Appends an entry of the plan. The last two of its bytes are 0.
+#[tactic(auto, using(std::proofs::lemmas::List::append_assoc))]
+fn put_entry(out: &mut Vec<u8>, entry: &Planned) -> Result<(), NoMemory>
+    ensures { OnOk result (out.new.items ≡ out.old.items ++ entry_text entry.now) }
+{
+    put_u32(out, entry.step)?;
+    out.extend_from_slice(&[entry.cpu, entry.vector, 0, 0])?;
+    Ok(())
+}
+
+/// Appends the plan.
+fn put_plan(out: &mut Vec<u8>, plan: &[Planned]) -> Result<(), NoMemory>
+    ensures { OnOk result (out.new.items ≡ out.old.items ++ flat_map entry_text plan.now) }
+{
+    for entry in plan {
+        put_entry(out, entry)?;
+    }
+    Ok(())
+}
+
 /// Appends a section.
 #[tactic(auto, using(std::proofs::lemmas::List::append_assoc))]
 fn put_section(out: &mut Vec<u8>, section: &Section) -> Result<(), NoMemory>
@@ -108,11 +128,12 @@ fn text_of(alloc: Global, image: &Image) -> Result<Vec<u8>, NoMemory>
     put_tables(&mut out, image)?;
     put_counts(&mut out, image)?;
     put_starts(&mut out, &image.starts)?;
+    put_plan(&mut out, image.plan.as_slice())?;
     put_sections(&mut out, image.sections.as_slice())?;
     Ok(out)
 }
 
-/// The bytes of a valid image: those that are read as this image, with 0 in each word that a reader ignores. The work
+/// The bytes of a valid image: those that are read as this image, with 0 in each word and byte that a reader ignores. The work
 /// takes time in proportion to the bytes.
 pub fn write_image(alloc: Global, image: &Image) -> Result<Vec<u8>, NoMemory>
     requires { IsValid image.now }
