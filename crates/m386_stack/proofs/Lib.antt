@@ -1,2 +1,4 @@
+pub mod Images
 pub mod Loops
+pub mod Plain
 pub mod Pushed
