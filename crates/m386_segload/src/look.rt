@@ -34,7 +34,7 @@ fn shown(what: Look, desc: &Desc) -> u32
 }
 
 /// What is found where a descriptor was read.
-fn looked(what: Look, c: &Candidate) -> Option<u32>
+pub(crate) fn looked(what: Look, c: &Candidate) -> Option<u32>
     ensures { result ≡ looked what c.now }
 {
     if !is_visible(what, c) {
