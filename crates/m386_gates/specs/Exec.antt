@@ -4,13 +4,14 @@ use Rattle.m386_base.specs.Exceptions.{undefined_opcode_of}
 use Rattle.m386_base.specs.Phrase.{Phrase, Faults}
 use Rattle.m386_opmap.specs.declared.op.Op.{Op}
 use Rattle.m386_state.specs.declared.proc.Proc.{Proc}
+use Rattle.m386_access.specs.Ran.{plainly}
 use Rattle.m386_access.specs.declared.ran.Ran.{Ran}
 use Rattle.m386_gates.specs.Near.{near_of, near_phrase}
 use Rattle.m386_gates.specs.declared.near.Near.{Near}
 
 -- one case for each group
 abbrev pub transfer_phrase : Option Near → Op → Proc → Phrase Ran
-transfer_phrase (Some near) op p = near_phrase near op p
+transfer_phrase (Some near) op p = plainly (near_phrase near op p)
 transfer_phrase None op p = Faults undefined_opcode_of
 
 -- whether an operation is one of this crate's

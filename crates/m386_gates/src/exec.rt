@@ -5,7 +5,7 @@ ghost use Rattle.m386_base.specs.Phrase.{Performs, PerformsRan, it};
 ghost use Rattle.m386_gates.specs.Exec.{takes, exec_phrase, transfer_phrase};
 
 use crate::near::{Near, near_of, transfer_near};
-use m386_access::ran::Ran;
+use m386_access::ran::{Ran, without_fault};
 use m386_base::bus::Bus;
 use m386_base::exception::undefined_opcode;
 use m386_base::fault::{Break, Fault};
@@ -21,14 +21,17 @@ pub fn takes(op: &Op) -> bool
 }
 
 /// One case for each group.
-#[tactic(auto, using(m386_base::proofs::Phrases::calls))]
+#[tactic(auto, using(m386_base::proofs::Phrases::calls), unfolding(m386_access::specs::Ran::plainly))]
 fn transfer<B: Bus>(near: Option<Near>, op: &Op, p: &Proc, bus: &mut B) -> Result<Ran, Break>
     requires free { (B.view bus.old).kept ≡ false }
     ensures cycles { Performs (transfer_phrase near op.now p.now) (B.view bus.old) (B.view bus.new) it result }
     ensures free { (B.view bus.new).kept ≡ false }
 {
     match near {
-        Some(near) => transfer_near(near, op, p, bus),
+        Some(near) => {
+            let after = transfer_near(p, bus, near, op)?;
+            Ok(without_fault(after))
+        }
         None => Err(Break::Fault(undefined_opcode())),
     }
 }

@@ -1,4 +1,4 @@
-//! Near transfers: JMP to a relative target.
+//! Near jumps.
 #![tactic(auto)]
 
 pub mod exec;

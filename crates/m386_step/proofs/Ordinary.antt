@@ -40,7 +40,7 @@ pub plain_operation : (op : Op) (p : Proc) → PlainRanFrom 160 p (operation_phr
 unfolding operation_phrase
 plain_operation op p =
     plain_if 160 (Ordinary p.gdtr) (KeepsRan p) [] (data_specs.takes op) _ _ (plain_plainly 8 160 p _ refl (data_laws.exec_plain op p))
-    (plain_if 160 (Ordinary p.gdtr) (KeepsRan p) [] (gates_specs.takes op) _ _ (within 0 160 p _ refl (gates_laws.exec_plain op p))
+    (plain_if 160 (Ordinary p.gdtr) (KeepsRan p) [] (gates_specs.takes op) _ _ (within 2 160 p _ refl (gates_laws.exec_plain op p))
     (plain_if 160 (Ordinary p.gdtr) (KeepsRan p) [] (string_specs.takes op) _ _ (plain_plainly 4 160 p _ refl (string_laws.exec_plain op p))
     (plain_if 160 (Ordinary p.gdtr) (KeepsRan p) [] (system_specs.takes op) _ _ (plain_plainly 0 160 p _ refl (system_laws.exec_plain op p))
     (plain_faults 160 (Ordinary p.gdtr) (KeepsRan p) [] _))))
