@@ -4,8 +4,8 @@ ghost use Rattle.m386_opmap.specs.declared.op.Op.{Op as OpRecord};
 ghost use Rattle.m386_state.specs.declared.proc.Proc.{Proc as ProcRecord};
 ghost use Rattle.m386_system.specs.Exec.{exec_phrase};
 
-/// Each operation is an ordinary one that makes no cycle.
+/// Each operation is an ordinary one of at most six cycles.
 #[tactic(auto, using(crate::proofs::Plain::exec_plain))]
 pub fn system_operations_are_plain()
-    ensures { (op : OpRecord) (p : ProcRecord) → PlainFrom 0 p (exec_phrase op p) }
+    ensures { (op : OpRecord) (p : ProcRecord) → PlainFrom 6 p (exec_phrase op p) }
 {}

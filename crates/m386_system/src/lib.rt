@@ -1,7 +1,11 @@
-//! Operations on the processor itself: HLT.
+//! Operations on the processor itself: its table registers, CR0, IF, HLT, WAIT and the coprocessor.
 #![tactic(auto)]
 
+pub mod control;
+pub mod coprocessor;
 pub mod exec;
 pub mod halt;
+pub mod interrupts;
 pub mod laws;
+pub mod tables;
 pub mod work;
