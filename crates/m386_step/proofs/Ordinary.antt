@@ -18,6 +18,10 @@ use Rattle.m386_data.proofs.Plain as data_laws
 use Rattle.m386_data.specs.Exec as data_specs
 use Rattle.m386_gates.proofs.Plain as gates_laws
 use Rattle.m386_gates.specs.Exec as gates_specs
+use Rattle.m386_segments.proofs.Plain as segments_laws
+use Rattle.m386_segments.specs.Exec as segments_specs
+use Rattle.m386_stack.proofs.Plain as stack_laws
+use Rattle.m386_stack.specs.Exec as stack_specs
 use Rattle.m386_string.proofs.Plain as string_laws
 use Rattle.m386_string.specs.Exec as string_specs
 use Rattle.m386_system.proofs.Plain as system_laws
@@ -41,9 +45,11 @@ unfolding operation_phrase
 plain_operation op p =
     plain_if 160 (Ordinary p.gdtr) (KeepsRan p) [] (data_specs.takes op) _ _ (plain_plainly 8 160 p _ refl (data_laws.exec_plain op p))
     (plain_if 160 (Ordinary p.gdtr) (KeepsRan p) [] (gates_specs.takes op) _ _ (within 2 160 p _ refl (gates_laws.exec_plain op p))
+    (plain_if 160 (Ordinary p.gdtr) (KeepsRan p) [] (segments_specs.takes op) _ _ (plain_plainly 9 160 p _ refl (segments_laws.exec_plain op p))
+    (plain_if 160 (Ordinary p.gdtr) (KeepsRan p) [] (stack_specs.takes op) _ _ (plain_plainly 16 160 p _ refl (stack_laws.exec_plain op p))
     (plain_if 160 (Ordinary p.gdtr) (KeepsRan p) [] (string_specs.takes op) _ _ (plain_plainly 4 160 p _ refl (string_laws.exec_plain op p))
-    (plain_if 160 (Ordinary p.gdtr) (KeepsRan p) [] (system_specs.takes op) _ _ (plain_plainly 0 160 p _ refl (system_laws.exec_plain op p))
-    (plain_faults 160 (Ordinary p.gdtr) (KeepsRan p) [] _))))
+    (plain_if 160 (Ordinary p.gdtr) (KeepsRan p) [] (system_specs.takes op) _ _ (plain_plainly 6 160 p _ refl (system_laws.exec_plain op p))
+    (plain_faults 160 (Ordinary p.gdtr) (KeepsRan p) [] _))))))
 
 -- It makes few cycles.
 pub short_operation : (op : Op) (p : Proc) → AtMost 160 (operation_phrase op p)

@@ -9,6 +9,8 @@ use Rattle.m386_access.specs.Ran.{plainly, ran}
 use Rattle.m386_access.specs.declared.ran.Ran.{Ran}
 use Rattle.m386_data.specs.Exec as data_ops
 use Rattle.m386_gates.specs.Exec as gates_ops
+use Rattle.m386_segments.specs.Exec as segments_ops
+use Rattle.m386_stack.specs.Exec as stack_ops
 use Rattle.m386_string.specs.Exec as string_ops
 use Rattle.m386_string.specs.Repetition.{behind_turn}
 use Rattle.m386_system.specs.Exec as system_ops
@@ -21,6 +23,8 @@ unfoldable pub operation_phrase : Op → Proc → Phrase Ran
 operation_phrase op p =
     if data_ops.takes op then plainly (data_ops.exec_phrase op p)
     else if gates_ops.takes op then gates_ops.exec_phrase op p
+    else if segments_ops.takes op then plainly (segments_ops.exec_phrase op p)
+    else if stack_ops.takes op then plainly (stack_ops.exec_phrase op p)
     else if string_ops.takes op then plainly (string_ops.exec_phrase op p)
     else if system_ops.takes op then plainly (system_ops.exec_phrase op p)
     else Faults undefined_opcode_of

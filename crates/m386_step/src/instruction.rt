@@ -14,6 +14,8 @@ use m386_base::fault::{Break, Fault};
 use m386_data::exec as data;
 use m386_gates::exec as gates;
 use m386_opmap::op::Op;
+use m386_segments::exec as segments;
+use m386_stack::exec as stack;
 use m386_state::proc::Proc;
 use m386_string::exec as string;
 use m386_string::repetition::behind_turn;
@@ -34,6 +36,14 @@ fn perform<B: Bus>(p: &mut Proc, op: &Op, bus: &mut B) -> Result<Option<Fault>, 
     }
     if gates::takes(op) {
         return gates::attempt(p, op, bus);
+    }
+    if segments::takes(op) {
+        segments::exec(p, op, bus)?;
+        return Ok(None);
+    }
+    if stack::takes(op) {
+        stack::exec(p, op, bus)?;
+        return Ok(None);
     }
     if string::takes(op) {
         string::exec(p, op, bus)?;
