@@ -1,1 +1,2 @@
--- Proofs of this crate.
+pub mod Frames
+pub mod Plain

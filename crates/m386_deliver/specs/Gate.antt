@@ -1,10 +1,9 @@
 -- The gate of an event, which stands in the IDT.
-use Rattle.std.specs.Prelude.{ℕ, Bool, true, false, ◌+◌, ◌*◌, ◌/◌, ◌%◌, ◌^◌, if◌then◌else◌, Option, Some, None}
+use Rattle.std.specs.Prelude.{ℕ, Bool, true, false, ◌+◌, ◌*◌, ◌%◌, ◌^◌, if◌then◌else◌, Option, Some, None}
 use Rattle.m386_base.specs.declared.ask.Role.TheVariants as roles
 use Rattle.m386_base.specs.declared.desc.Desc.{Desc}
 use Rattle.m386_base.specs.declared.fault.Fault.{Fault}
 use Rattle.m386_base.specs.Phrase.{Phrase, Done, ◌>>=◌}
-use Rattle.m386_desc.specs.declared.gate.Gate4.{Gate4}
 use Rattle.m386_desc.specs.Selector.{is_in_table}
 use Rattle.m386_state.specs.declared.event.Cause.{Cause}
 use Rattle.m386_state.specs.declared.event.Cause.TheVariants as causes
@@ -22,16 +21,6 @@ use Rattle.m386_segload.specs.Segments.{or_zeros}
 abbrev pub is_from_outside : Cause → Bool
 is_from_outside causes.Soft = false
 is_from_outside _ = true
-
--- The numbers of a gate whose eight bytes were read as a descriptor: the selector in bytes 2 and 3, the offset in bytes 0, 1, 6
--- and 7, the count in byte 4.
--- Source: Intel 80386 PRM 6.3.4, 9.5
-abbrev pub gate_of : Desc → Gate4
-gate_of d = record {
-  selector = d.base % 2 ^ 16;
-  offset = d.raw_limit % 2 ^ 16 + (d.raw_limit / 2 ^ 16 + d.flags * 2 ^ 4) * 2 ^ 16 + d.base / 2 ^ 24 * 2 ^ 24;
-  count = d.base / 2 ^ 16 % 2 ^ 5;
-}
 
 -- The error code of a fault that names the entry of a vector: the index, and IDT, bit 1, and EXT, bit 0.
 -- Source: Intel 80386 PRM 9.7

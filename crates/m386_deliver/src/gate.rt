@@ -1,13 +1,12 @@
 //! The gate of an event, which stands in the IDT (PRM 9.4, 9.5).
 ghost use Rattle.std.specs.Prelude.{◌≡◌, false, is_some};
 ghost use Rattle.m386_base.specs.Phrase.{Performs, PerformsOrStops, it};
-ghost use Rattle.m386_deliver.specs.Gate.{is_from_outside, gate_of, entry_code, gate_level, gate_candidate, entry_phrase, gate_or_fault, gate_phrase};
+ghost use Rattle.m386_deliver.specs.Gate.{is_from_outside, entry_code, gate_level, gate_candidate, entry_phrase, gate_or_fault, gate_phrase};
 
 use m386_base::ask::Role;
 use m386_base::bus::{Bus, leave};
 use m386_base::desc::Desc;
 use m386_base::fault::{Break, Fault, Stop};
-use m386_desc::gate::Gate4;
 use m386_desc::selector::in_table;
 use m386_segload::descriptor::read_descriptor;
 use m386_segload::load::candidate_for;
@@ -24,18 +23,6 @@ pub(crate) fn is_from_outside(cause: Cause) -> bool
     match cause {
         Cause::Soft => false,
         Cause::Exception | Cause::External => true,
-    }
-}
-
-/// The numbers of a gate whose eight bytes were read as a descriptor (PRM 6.3.4).
-pub fn gate_of(d: &Desc) -> Gate4
-    ensures { result ≡ gate_of d.now }
-{
-    let upper = d.raw_limit / 0x1_0000 + u32::from(d.flags) * 16;
-    Gate4 {
-        selector: (d.base % 0x1_0000) as u16,
-        offset: d.raw_limit % 0x1_0000 + upper * 0x1_0000 + d.base / 0x100_0000 * 0x100_0000,
-        count: (d.base / 0x1_0000 % 32) as u8,
     }
 }
 
