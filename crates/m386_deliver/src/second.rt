@@ -39,7 +39,7 @@ fn class_by(cause: Cause, vector: u8) -> FaultClass
 }
 
 /// The event of a fault.
-fn event_of(fault: Fault) -> Event
+pub fn event_of(fault: Fault) -> Event
     ensures { result ≡ event_of fault }
 {
     Event {

@@ -1,12 +1,12 @@
 -- Phrases that fetch no aligned group twice, and the cycles that are made of them.
-use Rattle.std.proofs.Common.{◌≡◌, ℕ, ◌++◌, List, [], ◌∷◌, refl, ◌∙◌, subst, cond, Bool, true, false, ne_eqb}
+use Rattle.std.proofs.Common.{◌≡◌, ℕ, ◌++◌, List, [], ◌∷◌, refl, ◌∙◌, subst, Bool, true, false, ne_eqb}
 use Rattle.std.specs.List.{Contains, IsDistinct, AllByRecursion}
 use Rattle.std.proofs.lemmas.Bool.{and_parts, eqb-true}
 use Rattle.m386_base.specs.declared.ask.Ask.{Ask}
 use Rattle.m386_base.specs.declared.fault.Fault.{Fault}
 use Rattle.m386_base.specs.Bus.{cycle_of}
 use Rattle.m386_base.specs.Laws.{Obeys}
-use Rattle.m386_base.specs.Phrase.{Phrase, Done, Faults, Asks, Begins, ◌>>=◌, either, matches, answer_of, role_number, follow, Whole, Wants, Wrong}
+use Rattle.m386_base.specs.Phrase.{Phrase, Done, Faults, Asks, Begins, either, matches, answer_of, role_number, follow, Whole, Wants, Wrong}
 use Rattle.m386_base.proofs.Phrases.{matches-cycle_of}
 use Rattle.m386_base.proofs.Members.{contains_first, contains_later}
 use Rattle.m386_step.specs.Once.{is_fetch, IsAnew, with_fetched, FetchesOnce, groups_fetched, FetchesDiffer}

@@ -24,6 +24,11 @@ use Rattle.m386_state.specs.declared.segment.TableReg.{TableReg}
 use Rattle.m386_access.specs.After.{at_eip}
 use Rattle.m386_access.specs.Ordinary.{Ordinary, Reads, Writes, Accesses, is_read_role, is_write_role, has_role, is_nested, popped, Keeps, KeepsRan}
 use Rattle.m386_access.specs.declared.ran.Ran.{Ran}
+use Rattle.m386_deliver.specs.Deliver.{deliver_phrase}
+use Rattle.m386_deliver.specs.Exec.{delivers}
+use Rattle.m386_deliver.specs.Second.{second_of}
+use Rattle.m386_deliver.proofs.Plain.{plain_deliver}
+use Rattle.std.specs.Prelude.{is_some}
 use Rattle.m386_string.specs.Element.{element_of}
 use Rattle.m386_string.specs.Repetition.{is_followed, behind_turn}
 use Rattle.m386_base.proofs.Matched.{cycle_matched}
@@ -33,7 +38,9 @@ use Rattle.m386_step.specs.Code.{read_on, further_phrase, decode_phrase}
 use Rattle.m386_step.specs.Fetch.{byte_phrase, group_phrase, linear, first_reader, taken, fetch_ask}
 use Rattle.m386_step.specs.Instruction.{operation_phrase, decoded_phrase, instruction_phrase}
 use Rattle.m386_step.specs.Keeping.{is_switch_cycle, NoSwitch, with_cycle, KeepsTask, AnyFault}
-use Rattle.m386_step.specs.Step.{is_due, without_event, settled, running_phrase, turn_phrase, step_phrase}
+use Rattle.m386_step.specs.Events.{due, at_delivery, at_delivery_of, behind_second, delivery_phrase}
+use Rattle.m386_step.specs.Settled.{settled}
+use Rattle.m386_step.specs.Step.{without_start, running_phrase, turn_phrase, event_or_turn, step_phrase}
 use Rattle.m386_step.proofs.Anew.{matches-role}
 use Rattle.m386_step.proofs.Ordinary.{plain_operation}
 
@@ -159,14 +166,23 @@ keeps_behind op p us after k = go (is_followed (element_of op.name) op.rep p aft
     go true = record { tr = k.tr; gdtr = k.gdtr; nested = k.nested }
     go false = k
 
-calm_instruction : (p : Proc) → Calm (λ us (r : Ran). KeepsTask p us r.after) [] (instruction_phrase p)
+keeps_pending : (p : Proc) (us : List Ask) (after : Proc) (e : Option Event) (b : Bool) → KeepsTask p us after → KeepsTask p us (cond b (record after { pending = e }) after)
+keeps_pending p us after e true k = record { tr = k.tr; gdtr = k.gdtr; nested = k.nested }
+keeps_pending p us after e false k = k
+
+keeps_settled : (delivered : Bool) (p : Proc) (us : List Ask) (after : Proc) (fault : Option Fault) → KeepsTask p us after → KeepsTask p us (settled delivered p after fault)
+keeps_settled delivered p us after (Some f) k = record { tr = k.tr; gdtr = k.gdtr; nested = k.nested }
+keeps_settled true p us after None k = k
+keeps_settled false p us after None k = keeps_pending p us after _ (has_flag Trap p.eflags) k
+
+calm_instruction : (p : Proc) → Calm (KeepsTask p) [] (instruction_phrase p)
 unfolding instruction_phrase decoded_phrase
 calm_instruction p =
-    obeys_then NoSwitch with_cycle Anything (λ us (r : Ran). KeepsTask p us r.after) AnyFault [] (decode_phrase (first_reader p)) _ (calm_decode (first_reader p) [])
+    obeys_then NoSwitch with_cycle Anything (KeepsTask p) AnyFault [] (decode_phrase (first_reader p)) _ (calm_decode (first_reader p) [])
     (λ us d o.
     let begun : Proc = at_eip p ((p.eip + d.len) % 2 ^ 32) in
-    obeys_then NoSwitch with_cycle (λ vs (r : Ran). KeepsTask begun vs r.after) (λ vs (r : Ran). KeepsTask p vs r.after) AnyFault us (operation_phrase d.op begun) _ (calm_operation d.op begun us)
-    (λ vs r k. keeps_behind d.op p vs r.after (record { tr = k.tr; gdtr = k.gdtr; nested = k.nested })))
+    obeys_then NoSwitch with_cycle (λ vs (r : Ran). KeepsTask begun vs r.after) (KeepsTask p) AnyFault us (operation_phrase d.op begun) _ (calm_operation d.op begun us)
+    (λ vs r k. keeps_settled (delivers d.op p) p vs _ r.fault (keeps_behind d.op p vs r.after (record { tr = k.tr; gdtr = k.gdtr; nested = k.nested }))))
 
 -- a phrase, and what follows from its end and from its fault
 calm_either : {A B : Type 0} (P : List Ask → A → Type 0) (Q : List Ask → B → Type 0) (ts : List Ask) (t : Phrase A) (f : A → Phrase B) (g : Fault → Phrase B) → Calm P ts t → ((us : List Ask) (a : A) → P us a → Calm Q us (f a)) → ((us : List Ask) (x : Fault) → Calm Q us (g x)) → Calm Q ts (either t f g)
@@ -176,23 +192,40 @@ calm_either P Q ts (Faults x) f g h k l = l ts x
 calm_either P Q ts (Begins m t) f g h k l = calm_either P Q ts t f g h k l
 calm_either P Q ts (Asks q c) f g h k l = λ t m. ((h t m).0, calm_either P Q (t ∷ ts) (c (answer_of t)) f g (h t m).1 k l)
 
-keeps_pending : (p : Proc) (us : List Ask) (after : Proc) (e : Option Event) (b : Bool) → KeepsTask p us after → KeepsTask p us (cond b (record after { pending = e }) after)
-keeps_pending p us after e true k = record { tr = k.tr; gdtr = k.gdtr; nested = k.nested }
-keeps_pending p us after e false k = k
-
-keeps_settled : (p : Proc) (us : List Ask) (after : Proc) (fault : Option Fault) → KeepsTask p us after → KeepsTask p us (settled p after fault)
-keeps_settled p us after (Some f) k = record { tr = k.tr; gdtr = k.gdtr; nested = k.nested }
-keeps_settled p us after None k = keeps_pending p us after _ (has_flag Trap p.eflags) k
-
 calm_turn : (m : Mode) (p : Proc) → Calm (KeepsTask p) [] (turn_phrase m p)
 unfolding running_phrase
-calm_turn Running p = calm_either (λ us (r : Ran). KeepsTask p us r.after) (KeepsTask p) [] (instruction_phrase p) _ _ (calm_instruction p) (λ us r k. keeps_settled p us r.after r.fault k) (λ us f. record { tr = refl; gdtr = inl refl; nested = λ h. inl h })
+calm_turn Running p = calm_either (KeepsTask p) (KeepsTask p) [] (instruction_phrase p) _ _ (calm_instruction p) (λ us r k. k) (λ us f. record { tr = refl; gdtr = inl refl; nested = λ h. inl h })
 calm_turn Halted p = record { tr = refl; gdtr = inl refl; nested = λ h. inl h }
 calm_turn Shutdown p = record { tr = refl; gdtr = inl refl; nested = λ h. inl h }
 
+calm_deliver : (p : Proc) (e : Event) → Calm (KeepsTask p) [] (deliver_phrase p e)
+unfolding Within
+calm_deliver p e =
+    plain_obeys 30 (Ordinary p.gdtr) (Keeps p) NoSwitch with_cycle (KeepsTask p) AnyFault Within
+    (λ us s q t w o m. (rw (← matches-role q t m) (ordinary_no_switch p.gdtr us q o), within_more us s q t m w))
+    (λ us s after w k. keeps_task p us s after w k)
+    (λ us s f w. tt)
+    [] [] (deliver_phrase p e) ([], refl) (plain_deliver p [] e)
+
+keeps_second : (p : Proc) (us : List Ask) (e : Option Event) → KeepsTask p us (behind_second p e)
+keeps_second p us (Some e) = record { tr = refl; gdtr = inl refl; nested = λ h. inl h }
+keeps_second p us None = record { tr = refl; gdtr = inl refl; nested = λ h. inl h }
+
+calm_delivery : (p : Proc) (e : Event) → Calm (KeepsTask p) [] (delivery_phrase p e)
+unfolding delivery_phrase
+calm_delivery p e = calm_either (KeepsTask p) (KeepsTask p) [] (deliver_phrase p e) _ _ (calm_deliver p e) (λ us after k. k) (λ us f. keeps_second p us (second_of e f))
+
+-- what a taken event leaves as it was
+taken_keeps : (e : Option Event) (p : Proc) (us : List Ask) (after : Proc) → KeepsTask (at_delivery_of e p) us after → KeepsTask p us after
+taken_keeps (Some e) p us after k = record { tr = k.tr; gdtr = k.gdtr; nested = k.nested }
+taken_keeps None p us after k = record { tr = k.tr; gdtr = k.gdtr; nested = k.nested }
+
+calm_event : (due : Option Event) (p : Proc) → Calm (KeepsTask p) [] (event_or_turn due p)
+calm_event (Some e) p = calm_ends (KeepsTask (at_delivery p)) (KeepsTask p) [] (delivery_phrase (at_delivery p) e) (λ us after k. taken_keeps p.pending p us after k) (calm_delivery (at_delivery p) e)
+calm_event None p =
+    let begun : Proc = record p { shadow = false } in
+    calm_ends (KeepsTask begun) (KeepsTask p) [] (turn_phrase p.mode begun) (λ us after k. record { tr = k.tr; gdtr = k.gdtr; nested = k.nested }) (calm_turn p.mode begun)
+
 pub calm_step : (p : Proc) → Calm (KeepsTask p) [] (step_phrase p)
 unfolding step_phrase
-calm_step p =
-    let begun : Proc = record p { shadow = false } in
-    calm_if (KeepsTask p) [] (is_due p) (Done (without_event p)) (turn_phrase p.mode begun) (record { tr = refl; gdtr = inl refl; nested = λ h. inl h })
-    (calm_ends (KeepsTask begun) (KeepsTask p) [] (turn_phrase p.mode begun) (λ us after k. record { tr = k.tr; gdtr = k.gdtr; nested = k.nested }) (calm_turn p.mode begun))
+calm_step p = calm_if (KeepsTask p) [] (is_some p.start) (Done (without_start p)) (event_or_turn (due p) p) (record { tr = refl; gdtr = inl refl; nested = λ h. inl h }) (calm_event (due p) p)

@@ -1,7 +1,10 @@
 -- No step fetches a group twice: its instruction's bytes rise, and what an operation does fetches nothing.
-use Rattle.std.proofs.Common.{◌+◌, ◌%◌, ◌^◌, [], cond, Bool, true, false}
+use Rattle.std.proofs.Common.{◌+◌, ◌%◌, ◌^◌, [], cond, Bool, true, false, Option, Some, None}
 use Rattle.m386_base.specs.Phrase.{Done}
 use Rattle.m386_base.proofs.Bounds.{obeys_then}
+use Rattle.std.specs.Prelude.{is_some}
+use Rattle.m386_deliver.specs.Deliver.{deliver_phrase}
+use Rattle.m386_state.specs.declared.event.Event.{Event}
 use Rattle.m386_state.specs.declared.proc.Mode.{Mode}
 use Rattle.m386_state.specs.declared.proc.Mode.TheVariants.{Running, Halted, Shutdown}
 use Rattle.m386_state.specs.declared.proc.Proc.{Proc}
@@ -9,9 +12,10 @@ use Rattle.m386_access.specs.After.{at_eip}
 use Rattle.m386_step.specs.Code.{decode_phrase}
 use Rattle.m386_step.specs.Fetch.{first_reader}
 use Rattle.m386_step.specs.Instruction.{operation_phrase, decoded_phrase, instruction_phrase}
-use Rattle.m386_step.proofs.Ordinary.{none_operation}
+use Rattle.m386_step.proofs.Ordinary.{none_operation, none_deliver}
 use Rattle.m386_step.specs.Once.{IsAnew, with_fetched, FetchesOnce}
-use Rattle.m386_step.specs.Step.{is_due, without_event, running_phrase, turn_phrase, step_phrase}
+use Rattle.m386_step.specs.Events.{due, at_delivery, delivery_phrase}
+use Rattle.m386_step.specs.Step.{without_start, running_phrase, turn_phrase, event_or_turn, step_phrase}
 use Rattle.m386_step.proofs.Anew.{Once, AnyGroups, none_once, once_either}
 use Rattle.m386_step.proofs.Rising.{once_decode}
 
@@ -29,10 +33,18 @@ once_turn Running p = once_either AnyGroups [] (instruction_phrase p) _ _ (once_
 once_turn Halted p = tt
 once_turn Shutdown p = tt
 
+once_delivery : (p : Proc) (e : Event) → Once AnyGroups [] (delivery_phrase p e)
+unfolding delivery_phrase
+once_delivery p e = once_either AnyGroups [] (deliver_phrase p e) _ _ (none_once [] (deliver_phrase p e) (none_deliver p e)) (λ a. tt) (λ f. tt)
+
+once_event : (due : Option Event) (p : Proc) → Once AnyGroups [] (event_or_turn due p)
+once_event (Some e) p = once_delivery (at_delivery p) e
+once_event None p = once_turn p.mode (record p { shadow = false })
+
 pub once_step : (p : Proc) → FetchesOnce [] (step_phrase p)
 unfolding step_phrase FetchesOnce
-once_step p = go (is_due p)
+once_step p = go (is_some p.start)
   where
-    go : (b : Bool) → Once AnyGroups [] (cond b (Done (without_event p)) (turn_phrase p.mode (record p { shadow = false })))
+    go : (b : Bool) → Once AnyGroups [] (cond b (Done (without_start p)) (event_or_turn (due p) p))
     go true = tt
-    go false = once_turn p.mode (record p { shadow = false })
+    go false = once_event (due p) p

@@ -7,6 +7,7 @@ use Rattle.m386_base.specs.Bus.{cycle_of}
 use Rattle.m386_base.specs.Laws.{AtMost}
 use Rattle.m386_base.specs.Phrase.{Phrase, Done, Faults, Asks, Begins, role_number}
 use Rattle.m386_opmap.specs.declared.op.Op.{Op}
+use Rattle.m386_state.specs.declared.event.Event.{Event}
 use Rattle.m386_state.specs.declared.proc.Proc.{Proc}
 use Rattle.m386_state.specs.declared.segment.TableReg.{TableReg}
 use Rattle.m386_access.specs.Ordinary.{Ordinary, Reads, Writes, Accesses, is_read_role, is_write_role, Keeps, KeepsRan, PlainFrom, PlainRanFrom}
@@ -16,6 +17,10 @@ use Rattle.m386_access.specs.declared.ran.Ran.{Ran}
 use Rattle.m386_base.proofs.Plain.{plain_at_most, plain_bind, plain_done, plain_faults, plain_if, plain_within}
 use Rattle.m386_data.proofs.Plain as data_laws
 use Rattle.m386_data.specs.Exec as data_specs
+use Rattle.m386_deliver.proofs.Plain as deliver_laws
+use Rattle.m386_deliver.proofs.Plain.{plain_deliver}
+use Rattle.m386_deliver.specs.Deliver.{deliver_phrase}
+use Rattle.m386_deliver.specs.Exec as deliver_specs
 use Rattle.m386_gates.proofs.Plain as gates_laws
 use Rattle.m386_gates.specs.Exec as gates_specs
 use Rattle.m386_segments.proofs.Plain as segments_laws
@@ -44,12 +49,13 @@ pub plain_operation : (op : Op) (p : Proc) → PlainRanFrom 160 p (operation_phr
 unfolding operation_phrase
 plain_operation op p =
     plain_if 160 (Ordinary p.gdtr) (KeepsRan p) [] (data_specs.takes op) _ _ (plain_plainly 8 160 p _ refl (data_laws.exec_plain op p))
+    (plain_if 160 (Ordinary p.gdtr) (KeepsRan p) [] (deliver_specs.takes op) _ _ (plain_plainly 30 160 p _ refl (deliver_laws.exec_plain op p))
     (plain_if 160 (Ordinary p.gdtr) (KeepsRan p) [] (gates_specs.takes op) _ _ (within 2 160 p _ refl (gates_laws.exec_plain op p))
     (plain_if 160 (Ordinary p.gdtr) (KeepsRan p) [] (segments_specs.takes op) _ _ (plain_plainly 9 160 p _ refl (segments_laws.exec_plain op p))
     (plain_if 160 (Ordinary p.gdtr) (KeepsRan p) [] (stack_specs.takes op) _ _ (plain_plainly 16 160 p _ refl (stack_laws.exec_plain op p))
     (plain_if 160 (Ordinary p.gdtr) (KeepsRan p) [] (string_specs.takes op) _ _ (plain_plainly 4 160 p _ refl (string_laws.exec_plain op p))
     (plain_if 160 (Ordinary p.gdtr) (KeepsRan p) [] (system_specs.takes op) _ _ (plain_plainly 6 160 p _ refl (system_laws.exec_plain op p))
-    (plain_faults 160 (Ordinary p.gdtr) (KeepsRan p) [] _))))))
+    (plain_faults 160 (Ordinary p.gdtr) (KeepsRan p) [] _)))))))
 
 -- It makes few cycles.
 pub short_operation : (op : Op) (p : Proc) → AtMost 160 (operation_phrase op p)
@@ -80,3 +86,10 @@ none_plain gdt (suc n) ends us (Asks q k) h = (ordinary_fetches_none gdt us q h.
 
 pub none_operation : (op : Op) (p : Proc) → FetchesNone (operation_phrase op p)
 none_operation op p = none_plain p.gdtr 160 (KeepsRan p) [] (operation_phrase op p) (plain_operation op p)
+
+-- Nor does the delivery of an event, which makes few cycles too.
+pub none_deliver : (p : Proc) (e : Event) → FetchesNone (deliver_phrase p e)
+none_deliver p e = none_plain p.gdtr 30 (Keeps p) [] (deliver_phrase p e) (plain_deliver p [] e)
+
+pub short_deliver : (p : Proc) (e : Event) → AtMost 30 (deliver_phrase p e)
+short_deliver p e = plain_at_most 30 (Ordinary p.gdtr) (Keeps p) [] (deliver_phrase p e) (plain_deliver p [] e)

@@ -1,5 +1,5 @@
 -- No step has more than 192 cycles, and none ends in a fault.
-use Rattle.std.proofs.Common.{◌≡◌, ℕ, zero, suc, ◌+◌, ◌++◌, ◌-◌, ◌%◌, List, [], ◌∷◌, arith, true, false, cond, Bool, nat_lt, ◌&&◌, ◌==◌}
+use Rattle.std.proofs.Common.{◌≡◌, ℕ, zero, suc, ◌+◌, ◌++◌, ◌-◌, ◌%◌, List, [], ◌∷◌, arith, true, false, cond, Bool, nat_lt, ◌&&◌, ◌==◌, Option, Some, None}
 use Rattle.m386_base.specs.Laws.{AtMost, Sound}
 use Rattle.m386_base.specs.Phrase.{Phrase, Done, ◌>>=◌, one}
 use Rattle.m386_base.proofs.Bounds.{at_most_then, at_most_either, at_most_if, sound_either}
@@ -7,6 +7,9 @@ use Rattle.m386_decode.specs.declared.decoded.Decoded.{Decoded}
 use Rattle.m386_opmap.specs.declared.outcome.Reading.{Reading}
 use Rattle.m386_opmap.specs.declared.outcome.Reading.TheVariants.{Spelled, More, Refused}
 use Rattle.m386_opmap.specs.Readings.{reading_of}
+use Rattle.std.specs.Prelude.{is_some}
+use Rattle.m386_deliver.specs.Deliver.{deliver_phrase}
+use Rattle.m386_state.specs.declared.event.Event.{Event}
 use Rattle.m386_state.specs.declared.proc.Mode.{Mode}
 use Rattle.m386_state.specs.declared.proc.Mode.TheVariants.{Running, Halted, Shutdown}
 use Rattle.m386_state.specs.declared.proc.Proc.{Proc}
@@ -14,8 +17,9 @@ use Rattle.m386_step.specs.declared.fetch.Reader.{Reader}
 use Rattle.m386_step.specs.Code.{read_on, further_phrase, decode_phrase}
 use Rattle.m386_step.specs.Fetch.{byte_phrase, group_phrase, linear, first_reader, taken, fetch_ask}
 use Rattle.m386_step.specs.Instruction.{decoded_phrase, instruction_phrase}
-use Rattle.m386_step.proofs.Ordinary.{short_operation}
-use Rattle.m386_step.specs.Step.{is_due, running_phrase, turn_phrase, step_phrase}
+use Rattle.m386_step.proofs.Ordinary.{short_operation, short_deliver}
+use Rattle.m386_step.specs.Events.{due, at_delivery, delivery_phrase}
+use Rattle.m386_step.specs.Step.{running_phrase, turn_phrase, event_or_turn, step_phrase}
 
 short_group : (r : Reader) → AtMost 1 (group_phrase r)
 unfolding group_phrase ◌>>=◌
@@ -56,9 +60,17 @@ short_turn Running p = short_running p
 short_turn Halted p = tt
 short_turn Shutdown p = tt
 
+short_delivery : (p : Proc) (e : Event) → AtMost 192 (delivery_phrase p e)
+unfolding delivery_phrase
+short_delivery p e = at_most_either 30 162 _ _ _ (short_deliver p e) (λ a. tt) (λ f. tt)
+
+short_event : (due : Option Event) (p : Proc) → AtMost 192 (event_or_turn due p)
+short_event (Some e) p = short_delivery (at_delivery p) e
+short_event None p = short_turn p.mode (record p { shadow = false })
+
 pub short_step : (p : Proc) → AtMost 192 (step_phrase p)
 unfolding step_phrase
-short_step p = at_most_if 192 (is_due p) _ _ tt (short_turn p.mode (record p { shadow = false }))
+short_step p = at_most_if 192 (is_some p.start) _ _ tt (short_event (due p) p)
 
 sound_turn : (m : Mode) (p : Proc) → Sound (turn_phrase m p)
 unfolding running_phrase
@@ -66,10 +78,15 @@ sound_turn Running p = sound_either (instruction_phrase p) _ _ (λ a. tt) (λ f.
 sound_turn Halted p = tt
 sound_turn Shutdown p = tt
 
+sound_event : (due : Option Event) (p : Proc) → Sound (event_or_turn due p)
+unfolding delivery_phrase
+sound_event (Some e) p = sound_either (deliver_phrase (at_delivery p) e) _ _ (λ a. tt) (λ f. tt)
+sound_event None p = sound_turn p.mode (record p { shadow = false })
+
 sound-if : {A : Type 0} (b : Bool) (t u : Phrase A) → Sound t → Sound u → Sound (cond b t u)
 sound-if true t u h k = h
 sound-if false t u h k = k
 
 pub sound_step : (p : Proc) → Sound (step_phrase p)
 unfolding step_phrase
-sound_step p = sound-if (is_due p) _ _ tt (sound_turn p.mode (record p { shadow = false }))
+sound_step p = sound-if (is_some p.start) _ _ tt (sound_event (due p) p)

@@ -1,11 +1,13 @@
 pub mod Code
+pub mod Events
 pub mod Fetch
 pub mod Fetched
 pub mod Instruction
-pub mod Keeping
 pub mod Judged
+pub mod Keeping
 pub mod Once
 pub mod Probes
 pub mod Run
+pub mod Settled
 pub mod Step
 pub mod Steps

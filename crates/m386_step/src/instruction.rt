@@ -6,12 +6,14 @@ ghost use Rattle.m386_step.specs.Instruction.{operation_phrase, behind_operation
 
 use crate::code::fetch_operation;
 use crate::fetch::reader_at;
+use crate::settled::settled;
 use m386_access::after::at_eip;
-use m386_access::ran::Ran;
 use m386_base::bus::Bus;
 use m386_base::exception::undefined_opcode;
 use m386_base::fault::{Break, Fault};
 use m386_data::exec as data;
+use m386_deliver::exec as deliver;
+use m386_deliver::exec::delivers;
 use m386_gates::exec as gates;
 use m386_opmap::op::Op;
 use m386_segments::exec as segments;
@@ -32,6 +34,10 @@ fn perform<B: Bus>(p: &mut Proc, op: &Op, bus: &mut B) -> Result<Option<Fault>, 
 {
     if data::takes(op) {
         data::exec(p, op, bus)?;
+        return Ok(None);
+    }
+    if deliver::takes(op) {
+        deliver::exec(p, op, bus)?;
         return Ok(None);
     }
     if gates::takes(op) {
@@ -56,20 +62,18 @@ fn perform<B: Bus>(p: &mut Proc, op: &Op, bus: &mut B) -> Result<Option<Fault>, 
     Err(Break::Fault(undefined_opcode()))
 }
 
-/// What an operation of an instruction that began in a state comes to: EIP is the instruction's again where a further turn
-/// follows.
-fn behind_operation(op: &Op, before: &Proc, after: &Proc, fault: Option<Fault>) -> Ran
+/// What an operation of an instruction that began in a state comes to: EIP is the instruction's again where a further turn follows;
+/// and the trap or the fault behind it is pending.
+fn behind_operation(op: &Op, before: &Proc, after: &Proc, fault: Option<Fault>) -> Proc
     ensures { result ≡ behind_operation op.now before.now (ran after.now fault) }
 {
-    Ran {
-        after: behind_turn(op, before, after),
-        fault,
-    }
+    let turned = behind_turn(op, before, after);
+    settled(delivers(op, before), before, &turned, fault)
 }
 
 /// An instruction of so many bytes, or a turn of one that is repeated.
 #[tactic(auto, using(m386_base::proofs::Phrases::calls), unfolding(crate::specs::Instruction::decoded_phrase))]
-fn execute<B: Bus>(op: &Op, len: u8, p: &Proc, bus: &mut B) -> Result<Ran, Break>
+fn execute<B: Bus>(op: &Op, len: u8, p: &Proc, bus: &mut B) -> Result<Proc, Break>
     requires free { (B.view bus.old).kept ≡ false }
     ensures cycles { Performs (decoded_phrase op.now len p.now) (B.view bus.old) (B.view bus.new) it result }
     ensures free { (B.view bus.new).kept ≡ false }
@@ -81,7 +85,7 @@ fn execute<B: Bus>(op: &Op, len: u8, p: &Proc, bus: &mut B) -> Result<Ran, Break
 
 /// The instruction at EIP. One that isn't built is #UD, behind its last byte.
 #[tactic(auto, using(m386_base::proofs::Phrases::calls), unfolding(crate::specs::Instruction::instruction_phrase))]
-pub fn instruction<B: Bus>(p: &Proc, bus: &mut B) -> Result<Ran, Break>
+pub fn instruction<B: Bus>(p: &Proc, bus: &mut B) -> Result<Proc, Break>
     requires free { (B.view bus.old).kept ≡ false }
     ensures cycles { Performs (instruction_phrase p.now) (B.view bus.old) (B.view bus.new) it result }
     ensures free { (B.view bus.new).kept ≡ false }

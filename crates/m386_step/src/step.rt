@@ -2,71 +2,26 @@
 ghost use Rattle.std.specs.Prelude.{◌≡◌, ◌≢◌, ◌+◌, ◌<◌, ◌≤◌, false, [], length, OnOk, OnErr, MatchResult};
 ghost use Rattle.m386_base.specs.declared.ask.Ask.{Ask as AskRecord};
 ghost use Rattle.m386_base.specs.Phrase.{PerformsOrStops, IsJudged, Whole, Wants, SameBus, Stopped, it};
-ghost use Rattle.m386_step.specs.Step.{step_phrase, running_phrase, is_due, without_event, traced, faulted, settled, event_of};
+ghost use Rattle.m386_step.specs.Step.{step_phrase, running_phrase, without_start};
 
+use crate::events::{at_delivery, deliver_event, due};
 use crate::instruction::instruction;
+use crate::settled::with_fault;
 use m386_base::bus::Bus;
-use m386_base::exception::Exception;
-use m386_base::fault::{Break, Fault, Stop};
-use m386_base::flags::{Flag, has_flag};
-use m386_state::event::{Cause, Event};
+use m386_base::fault::{Break, Stop};
 use m386_state::proc::{Mode, Proc};
 
-/// Whether a start or an event comes before anything else.
-fn is_event_due(p: &Proc) -> bool
-    ensures { result ≡ is_due p.now }
-{
-    let is_requested = p.request.is_some() && has_flag(Flag::Interrupt, p.eflags) && !p.shadow;
-    p.start.is_some() || p.pending.is_some() || is_requested
-}
-
-/// The state after a start or an event, as long as no delivery is built: it is dropped, and the processor is shut down.
-fn drop_event(p: &Proc) -> Proc
-    ensures { result ≡ without_event p.now }
+/// The state of a processor whose task hasn't been started, as long as no start is built: it is shut down.
+fn without_start(p: &Proc) -> Proc
+    ensures { result ≡ without_start p.now }
 {
     let mut after = *p;
     after.start = None;
-    after.pending = None;
-    after.request = None;
     after.mode = Mode::Shutdown;
     after
 }
 
-/// The state with the exception of an instruction pending. The registers are as at the step's start.
-fn with_fault(p: &Proc, fault: Fault) -> Proc
-    ensures { result ≡ faulted p.now fault }
-{
-    let mut after = *p;
-    after.pending = Some(Event {
-        vector: fault.vector,
-        code: fault.code,
-        cause: Cause::Exception,
-    });
-    after
-}
-
-/// The state after an instruction: with TF set at its start, the single-step trap is pending (PRM 12.3.1.4).
-fn with_trap(before: &Proc, after: &Proc) -> Proc
-    ensures { result ≡ traced before.now after.now }
-{
-    if has_flag(Flag::Trap, before.eflags) {
-        with_fault(after, Exception::Debug.fault())
-    } else {
-        *after
-    }
-}
-
-/// The state behind an instruction: with its trap, or with the fault that is seen in the new state.
-fn settled(before: &Proc, after: &Proc, fault: Option<Fault>) -> Proc
-    ensures { result ≡ settled before.now after.now fault }
-{
-    match fault {
-        None => with_trap(before, after),
-        Some(fault) => with_fault(after, fault),
-    }
-}
-
-/// One instruction, with its fault or its trap pending afterwards.
+/// One instruction, with its fault pending afterwards. The registers are then as at the step's start.
 #[tactic(auto, using(m386_base::proofs::Phrases::caught), unfolding(crate::specs::Step::running_phrase))]
 fn run<B: Bus>(p: &Proc, bus: &mut B) -> Result<Proc, Stop>
     requires free { (B.view bus.old).kept ≡ false }
@@ -74,13 +29,13 @@ fn run<B: Bus>(p: &Proc, bus: &mut B) -> Result<Proc, Stop>
     ensures free { (B.view bus.new).kept ≡ false }
 {
     match instruction(p, bus) {
-        Ok(ran) => Ok(settled(p, &ran.after, ran.fault)),
+        Ok(after) => Ok(after),
         Err(Break::Fault(fault)) => Ok(with_fault(p, fault)),
         Err(Break::Stop(stop)) => Err(stop),
     }
 }
 
-/// One step: the start or event that is due, else a turn of a halted processor, else one instruction.
+/// One step: the start or the event that is due, else a turn of a halted processor, else one instruction.
 #[tactic(auto, using(m386_base::proofs::Phrases::calls), unfolding(crate::specs::Step::step_phrase))]
 pub fn advance<B: Bus>(p: &mut Proc, bus: &mut B) -> Result<(), Stop>
     requires free { (B.view bus.old).kept ≡ false }
@@ -89,8 +44,12 @@ pub fn advance<B: Bus>(p: &mut Proc, bus: &mut B) -> Result<(), Stop>
     ensures free { (B.view bus.new).kept ≡ false }
     ensures stopped { OnErr result (p.new ≡ p.old) }
 {
-    if is_event_due(p) {
-        *p = drop_event(p);
+    if p.start.is_some() {
+        *p = without_start(p);
+        return Ok(());
+    }
+    if let Some(event) = due(p) {
+        *p = deliver_event(&at_delivery(p), &event, bus)?;
         return Ok(());
     }
     let mut begun = *p;

@@ -479,19 +479,43 @@ fn jumps_are_taken_modulo_2_to_the_32(rt: HostRuntime) {
 fn a_turn_without_an_instruction_makes_no_cycle(rt: HostRuntime) {
     let p = bare();
     let halted = in_mode(&p, Mode::Halted);
-    let down = in_mode(&p, Mode::Shutdown);
     let none = TableReg { base: 0, limit: 0 };
     let task = start_task(0x18, none, none);
     let mut started = in_mode(&task, Mode::Shutdown);
     started.start = None;
     let waiting = requested(&halted, 0x20, false);
+    // The IDT has no entry. What is delivered meets #GP, whose code names the entry, with EXT.
     let cases = [
         ("a turn of a halted processor", halted, halted),
-        ("a pending event", pending(&halted, 13, Some(0)), down),
+        (
+            "a pending #GP, a fault of its class, and so a double fault",
+            pending(&halted, 13, Some(0)),
+            pending(&p, 8, Some(0)),
+        ),
+        (
+            "a pending #UD, whose place the fault takes",
+            pending(&p, 6, None),
+            pending(&p, 13, Some(0x33)),
+        ),
+        (
+            "a pending double fault",
+            pending(&p, 8, Some(0)),
+            in_mode(&p, Mode::Shutdown),
+        ),
+        (
+            "a pending event before a request",
+            pending(&requested(&p, 0x20, false), 6, None),
+            pending(&requested(&p, 0x20, false), 13, Some(0x33)),
+        ),
+        (
+            "a pending event under a shadow",
+            pending(&requested(&p, 0x20, true), 6, None),
+            pending(&requested(&p, 0x20, false), 13, Some(0x33)),
+        ),
         (
             "a request with IF set",
-            flagged(&requested(&p, 0x20, false), 0x202),
-            flagged(&down, 0x202),
+            flagged(&requested(&halted, 0x20, false), 0x202),
+            pending(&flagged(&p, 0x202), 13, Some(0x103)),
         ),
         ("a request with IF clear", waiting, waiting),
         ("the start of a task", task, started),
@@ -579,8 +603,8 @@ fn an_instruction_halts_faults_or_traps(rt: HostRuntime) {
 
 #[test]
 fn a_run_ends_at_its_budget_or_in_shutdown(rt: HostRuntime) {
-    // JMP 1000h, and an undefined opcode, whose fault is dropped by the step after it.
-    for (opcode, budget, made, cycles) in [(0xeb, 5, 5, 5), (0xeb, 0, 0, 0), (0x0f, 5, 2, 1)] {
+    // JMP 1000h; and an undefined opcode where the IDT has no entry: #UD, #GP, a double fault, and the end.
+    for (opcode, budget, made, cycles) in [(0xeb, 5, 5, 5), (0xeb, 0, 0, 0), (0x0f, 9, 4, 1)] {
         let mut p = bare();
         let mut bus = bus_of(&[opcode, 0xfe, 0, 0, 0, 0, 0, 0]);
         assert_eq!(rt; run(&mut p, &mut bus, budget), Ok(made), "budget {budget}");
