@@ -160,7 +160,8 @@ fn a_locked_group_lets_no_other_in(rt: HostRuntime) -> Result<(), Fail> {
 
 #[test]
 fn steps_without_a_cycle_are_taken_at_once(rt: HostRuntime) -> Result<(), Fail> {
-    // Processor 0 finds no operation at 1004 and shuts down, and processor 1 halts.
+    // Processor 0 finds no operation at 1004, and as the IDT has no entry meets #GP, a double fault and its end, none with a cycle;
+    // processor 1 halts.
     let mut bytes = EXCHANGE;
     bytes[32] = 0x04;
     bytes[76] = 0x0f;
@@ -176,7 +177,7 @@ fn steps_without_a_cycle_are_taken_at_once(rt: HostRuntime) -> Result<(), Fail> 
         assert_eq!(rt; cycle.ask.value, value);
     }
     assert_eq!(rt; ended.log.cycles().len(), 2);
-    let wanted = [(2, Mode::Shutdown), (5, Mode::Halted)];
+    let wanted = [(4, Mode::Shutdown), (5, Mode::Halted)];
     for (end, (steps, mode)) in ended.procs.as_slice().iter().zip(wanted) {
         assert_eq!(rt; (end.steps, end.after.mode), (steps, mode));
     }
@@ -231,7 +232,8 @@ fn a_plan_gives_one_request_at_a_time(rt: HostRuntime) {
 
 #[test]
 fn a_planned_request_comes_before_its_step(rt: HostRuntime) {
-    // HLT at 1000, in a processor that lets interrupts in: an entry for the step behind it ends in a delivery.
+    // HLT at 1000, in a processor that lets interrupts in: the first entry is delivered behind it. The IDT has no entry, so #GP, a
+    // double fault and a shutdown follow, and the second entry is requested meanwhile and holds the third back.
     let mut end = ProcEnd {
         after: bare(0x1000),
         steps: 0,
@@ -249,9 +251,10 @@ fn a_planned_request_comes_before_its_step(rt: HostRuntime) {
     if end.steps < 5 && end.after.mode != Mode::Shutdown {
         step.hear(&mut end, 0, 5, 0xf4);
     }
-    assert_eq!(rt; (end.steps, end.after.mode), (2, Mode::Shutdown));
+    assert_eq!(rt; (end.steps, end.after.mode), (4, Mode::Shutdown));
+    assert_eq!(rt; end.after.request, Some(0x21));
     assert_eq!(rt;
         (step.next, step.plan.front),
-        (None, Some(entry(0, 0, 0x21)))
+        (None, Some(entry(3, 0, 0x22)))
     );
 }
