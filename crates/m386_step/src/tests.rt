@@ -1,5 +1,8 @@
 //! Worked steps: each over a bus of a few bytes, and over every front of the values that it reads.
 mod decoding;
+mod looks;
+mod pointers;
+mod segments;
 mod strings;
 
 ghost use Rattle.std.specs.Prelude.{◌≡◌, ◌<◌, ◌≤◌, [], false, length};
@@ -191,7 +194,7 @@ fn step_wants(rt: &impl Abort, case: &Case<'_>, values: &[u32], next: Ask) {
 
 /// The step over each front of what it reads: it wants the next cycle, and at the end it is whole.
 fn step_over_values(rt: &impl Abort, case: &Case<'_>) {
-    let mut values = [0; 8];
+    let mut values = [0; 16];
     for (i, ask) in case.cycles.iter().enumerate() {
         assert!(rt; i < values.len());
         let mut next = *ask;
