@@ -6,20 +6,20 @@ use Rattle.m386_opmap.specs.declared.op.Op.{Op}
 use Rattle.m386_state.specs.declared.proc.Proc.{Proc}
 use Rattle.m386_access.specs.Ran.{plainly}
 use Rattle.m386_access.specs.declared.ran.Ran.{Ran}
-use Rattle.m386_gates.specs.Near.{near_of, near_phrase}
-use Rattle.m386_gates.specs.declared.near.Near.{Near}
+use Rattle.m386_gates.specs.Transfer.{transfer_of, transfer_phrase}
+use Rattle.m386_gates.specs.declared.transfer.Transfer.{Transfer}
 
--- one case for each group
-abbrev pub transfer_phrase : Option Near → Op → Proc → Phrase Ran
-transfer_phrase (Some near) op p = plainly (near_phrase near op p)
-transfer_phrase None op p = Faults undefined_opcode_of
+-- a transfer leaves no fault in a new state
+abbrev pub action_phrase : Option Transfer → Op → Proc → Phrase Ran
+action_phrase (Some transfer) op p = plainly (transfer_phrase transfer op p)
+action_phrase None op p = Faults undefined_opcode_of
 
 -- whether an operation is one of this crate's
 unfoldable pub takes : Op → Bool
-takes op = is_some (near_of op.name)
+takes op = is_some (transfer_of op.name)
 
 -- An operation of this crate, with EIP behind it. A fault is seen in the state before the instruction; one that is found
 -- beside a state is seen in that one.
 -- Source: Intel 80386 PRM 17.2.2.11; #UD: docs/DECISIONS.md, "Operations that aren't built"
 unfoldable pub exec_phrase : Op → Proc → Phrase Ran
-exec_phrase op p = transfer_phrase (near_of op.name) op p
+exec_phrase op p = action_phrase (transfer_of op.name) op p

@@ -2,9 +2,9 @@
 ghost use Rattle.std.specs.Prelude.{◌≡◌, false, OnErr};
 ghost use Rattle.m386_access.specs.Ran.{ran, told};
 ghost use Rattle.m386_base.specs.Phrase.{Performs, PerformsRan, it};
-ghost use Rattle.m386_gates.specs.Exec.{takes, exec_phrase, transfer_phrase};
+ghost use Rattle.m386_gates.specs.Exec.{takes, exec_phrase, action_phrase};
 
-use crate::near::{Near, near_of, transfer_near};
+use crate::transfer::{Transfer, do_transfer, transfer_of};
 use m386_access::ran::{Ran, without_fault};
 use m386_base::bus::Bus;
 use m386_base::exception::undefined_opcode;
@@ -17,19 +17,19 @@ use m386_state::proc::Proc;
 pub fn takes(op: &Op) -> bool
     ensures { result ≡ takes op.now }
 {
-    near_of(op.name).is_some()
+    transfer_of(op.name).is_some()
 }
 
-/// One case for each group.
+/// A transfer leaves no fault in a new state.
 #[tactic(auto, using(m386_base::proofs::Phrases::calls), unfolding(m386_access::specs::Ran::plainly))]
-fn transfer<B: Bus>(near: Option<Near>, op: &Op, p: &Proc, bus: &mut B) -> Result<Ran, Break>
+fn act<B: Bus>(p: &Proc, bus: &mut B, transfer: Option<Transfer>, op: &Op) -> Result<Ran, Break>
     requires free { (B.view bus.old).kept ≡ false }
-    ensures cycles { Performs (transfer_phrase near op.now p.now) (B.view bus.old) (B.view bus.new) it result }
+    ensures cycles { Performs (action_phrase transfer op.now p.now) (B.view bus.old) (B.view bus.new) it result }
     ensures free { (B.view bus.new).kept ≡ false }
 {
-    match near {
-        Some(near) => {
-            let after = transfer_near(p, bus, near, op)?;
+    match transfer {
+        Some(transfer) => {
+            let after = do_transfer(p, bus, transfer, op)?;
             Ok(without_fault(after))
         }
         None => Err(Break::Fault(undefined_opcode())),
@@ -45,7 +45,7 @@ pub fn attempt<B: Bus>(p: &mut Proc, op: &Op, bus: &mut B) -> Result<Option<Faul
     ensures free { (B.view bus.new).kept ≡ false }
     ensures before { OnErr result (p.new ≡ p.old) }
 {
-    let ended = transfer(near_of(op.name), op, p, bus)?;
+    let ended = act(p, bus, transfer_of(op.name), op)?;
     *p = ended.after;
     Ok(ended.fault)
 }

@@ -68,7 +68,7 @@ pub(crate) fn is_in_code(p: &Proc, offset: u32) -> bool
     allows(&segment(p, CS).desc, offset, 1)
 }
 
-/// A target by the width of its jump: with 16 bits it is taken modulo 65,536.
+/// An offset by the width of its transfer: with 16 bits it is taken modulo 65,536.
 pub(crate) fn near_target(width: Width, offset: u32) -> u32
     ensures { result ≡ near_target width offset }
 {
@@ -80,7 +80,7 @@ pub(crate) fn near_target(width: Width, offset: u32) -> u32
 
 /// The state at a target. #GP(0) where it lies outside the limit of CS.
 #[tactic(auto, using(m386_base::proofs::Phrases::calls))]
-fn land<B: Bus>(p: &Proc, bus: &mut B, target: u32) -> Result<Proc, Break>
+pub(crate) fn land<B: Bus>(p: &Proc, bus: &mut B, target: u32) -> Result<Proc, Break>
     requires free { (B.view bus.old).kept ≡ false }
     ensures cycles { Performs (land_phrase p.now target) (B.view bus.old) (B.view bus.new) it result }
     ensures free { (B.view bus.new).kept ≡ false }

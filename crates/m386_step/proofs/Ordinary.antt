@@ -50,7 +50,7 @@ unfolding operation_phrase
 plain_operation op p =
     plain_if 160 (Ordinary p.gdtr) (KeepsRan p) [] (data_specs.takes op) _ _ (plain_plainly 8 160 p _ refl (data_laws.exec_plain op p))
     (plain_if 160 (Ordinary p.gdtr) (KeepsRan p) [] (deliver_specs.takes op) _ _ (plain_plainly 30 160 p _ refl (deliver_laws.exec_plain op p))
-    (plain_if 160 (Ordinary p.gdtr) (KeepsRan p) [] (gates_specs.takes op) _ _ (within 2 160 p _ refl (gates_laws.exec_plain op p))
+    (plain_if 160 (Ordinary p.gdtr) (KeepsRan p) [] (gates_specs.takes op) _ _ (within 154 160 p _ refl (gates_laws.exec_plain op p))
     (plain_if 160 (Ordinary p.gdtr) (KeepsRan p) [] (segments_specs.takes op) _ _ (plain_plainly 9 160 p _ refl (segments_laws.exec_plain op p))
     (plain_if 160 (Ordinary p.gdtr) (KeepsRan p) [] (stack_specs.takes op) _ _ (plain_plainly 16 160 p _ refl (stack_laws.exec_plain op p))
     (plain_if 160 (Ordinary p.gdtr) (KeepsRan p) [] (string_specs.takes op) _ _ (plain_plainly 4 160 p _ refl (string_laws.exec_plain op p))
