@@ -4,6 +4,8 @@ mod looks;
 mod pointers;
 mod segments;
 mod strings;
+mod system;
+mod table_registers;
 
 ghost use Rattle.std.specs.Prelude.{◌≡◌, ◌<◌, ◌≤◌, [], false, length};
 
