@@ -3,6 +3,7 @@ mod decoding;
 mod looks;
 mod pointers;
 mod segments;
+mod stacks;
 mod strings;
 mod system;
 mod table_registers;
@@ -196,7 +197,7 @@ fn step_wants(rt: &impl Abort, case: &Case<'_>, values: &[u32], next: Ask) {
 
 /// The step over each front of what it reads: it wants the next cycle, and at the end it is whole.
 fn step_over_values(rt: &impl Abort, case: &Case<'_>) {
-    let mut values = [0; 16];
+    let mut values = [0; 24];
     for (i, ask) in case.cycles.iter().enumerate() {
         assert!(rt; i < values.len());
         let mut next = *ask;
