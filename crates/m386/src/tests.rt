@@ -1,4 +1,5 @@
 //! What calls of the program answer, and what they write.
+mod programs;
 mod several;
 
 ghost use Rattle.std.specs.Prelude.{◌≤◌};
@@ -130,7 +131,31 @@ fn report_of(
 #[test]
 fn reports_the_cycles_of_a_run(rt: HostRuntime) -> Result<(), Fail> {
     // The code, the steps, the cycles, and the processor's line before and behind the other registers.
-    let rows: [(&str, &[u8], &str, &[&str], &str, &str); 7] = [
+    let rows: [(&str, &[u8], &str, &[&str], &str, &str); 10] = [
+        (
+            "INT 32 where the IDT has no entry",
+            &[0xcd, 0x20],
+            "--steps=1",
+            &["c 0 m r . fetch 00 00001000 f 000020cd"],
+            "running steps 1 eip 00001000 efl 00000002 eax 00000000",
+            "0d 0102",
+        ),
+        (
+            "and then a double fault",
+            &[0xcd, 0x20],
+            "--steps=2",
+            &["c 0 m r . fetch 00 00001000 f 000020cd"],
+            "running steps 2 eip 00001000 efl 00000002 eax 00000000",
+            "08 0000",
+        ),
+        (
+            "and then the end",
+            &[0xcd, 0x20],
+            "--steps=5",
+            &["c 0 m r . fetch 00 00001000 f 000020cd"],
+            "shutdown steps 3 eip 00001000 efl 00000002 eax 00000000",
+            "none",
+        ),
         (
             "first run",
             &[
