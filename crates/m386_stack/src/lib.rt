@@ -9,3 +9,5 @@ pub mod laws;
 pub mod names;
 pub mod single;
 pub mod stack;
+#[cfg(test)]
+mod tests;

@@ -1,6 +1,8 @@
 //! A stack that is pushed on and popped from.
 ghost use Rattle.std.specs.Prelude.{◌≡◌, false, ◌⊎◌};
+ghost use Rattle.m386_access.specs.Address.{access_fault_of};
 ghost use Rattle.m386_base.specs.Phrase.{Performs, it};
+ghost use Rattle.m386_base.specs.Segments.{ss};
 ghost use Rattle.m386_stack.specs.Stack.{own_stack, top_of, at_pointer, moved, lowered, may_push, may_pop, put_top_phrase, push_phrase, pop_phrase, pushes, with_pointer, with_stack};
 
 use m386_access::access::{read_groups, write_groups};
@@ -9,7 +11,7 @@ use m386_access::after::{register_of, with_register};
 use m386_access::registers::ESP;
 use m386_base::ask::Role;
 use m386_base::bus::Bus;
-use m386_base::fault::Break;
+use m386_base::fault::{Break, Fault};
 use m386_base::segments::SS;
 use m386_desc::access::big;
 use m386_segload::segment::with_segment;
@@ -90,6 +92,13 @@ fn may_pop(stack: &Stack, len: u8) -> bool
     may_read(&stack.ss, top(stack), len)
 }
 
+/// The fault of a push or a pop.
+fn stack_fault() -> Fault
+    ensures { result ≡ access_fault_of ss }
+{
+    access_fault(SS)
+}
+
 /// Writes a value at the top.
 #[tactic(auto, using(m386_base::proofs::Phrases::calls), unfolding(crate::specs::Stack::put_top_phrase))]
 fn put_top<B: Bus>(bus: &mut B, stack: &Stack, len: u8, value: u32) -> Result<Stack, Break>
@@ -99,7 +108,7 @@ fn put_top<B: Bus>(bus: &mut B, stack: &Stack, len: u8, value: u32) -> Result<St
     ensures free { (B.view bus.new).kept ≡ false }
 {
     if !may_push(stack, len) {
-        return Err(Break::Fault(access_fault(SS)));
+        return Err(Break::Fault(stack_fault()));
     }
     write_groups(bus, Role::Push, linear(&stack.ss, top(stack)), len, value)?;
     Ok(*stack)
@@ -127,7 +136,7 @@ pub fn pop<B: Bus>(bus: &mut B, role: Role, stack: &Stack, len: u8) -> Result<u3
     ensures free { (B.view bus.new).kept ≡ false }
 {
     if !may_pop(stack, len) {
-        return Err(Break::Fault(access_fault(SS)));
+        return Err(Break::Fault(stack_fault()));
     }
     read_groups(bus, role, linear(&stack.ss, top(stack)), len)
 }
