@@ -1,12 +1,15 @@
 //! Worked steps: each over a bus of a few bytes, and over every front of the values that it reads.
+mod call_gates;
 mod decoding;
 mod looks;
+mod near;
 mod pointers;
 mod segments;
 mod stacks;
 mod strings;
 mod system;
 mod table_registers;
+mod transfers;
 
 ghost use Rattle.std.specs.Prelude.{◌≡◌, ◌<◌, ◌≤◌, [], false, length};
 

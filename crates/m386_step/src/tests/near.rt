@@ -11,30 +11,28 @@ use std::process::Abort;
 /// The place of ECX.
 const ECX: usize = 1;
 
-/// The state with a code segment of this base and limit, with its granularity.
-fn in_code(p: &Proc, base: u32, limit: u32, flags: u8) -> Proc
-    requires limit { limit < 0x10_0000 }
-    requires flags { flags < 16 }
-{
+/// A processor at this EIP with a code segment.
+fn in_code(eip: u32, desc: Desc) -> Proc {
+    let p = at(&bare(), eip);
     let data = p.segs[0];
     let code = Seg {
         selector: 8,
         usable: true,
-        desc: Desc::new(base, limit, 0x9b, flags),
+        desc,
     };
-    let mut after = *p;
+    let mut after = p;
     after.segs = [data, code, data, data, data, data];
     after
 }
 
 /// A processor at 1000h in a segment whose last offset is 1020h.
 fn short() -> Proc {
-    in_code(&bare(), 0, 0x1020, 4)
+    in_code(0x1000, Desc::new(0, 0x1020, 0x9b, 4))
 }
 
 /// A processor at 11000h, whose segment has it at 1000h.
 fn high() -> Proc {
-    at(&in_code(&bare(), 0xffff_0000, 0xf_ffff, 0xc), 0x1_1000)
+    in_code(0x1_1000, Desc::new(0xffff_0000, 0xf_ffff, 0x9b, 0xc))
 }
 
 /// An instruction of so many bytes, the first the lowest of a number, that goes from one state to another. It reads nothing but
