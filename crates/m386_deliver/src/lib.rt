@@ -7,3 +7,5 @@ pub mod gate;
 pub mod iret;
 pub mod laws;
 pub mod second;
+#[cfg(test)]
+mod tests;

@@ -1,0 +1,230 @@
+//! The change to an inner stack, which fails at each of its rules, and frames that don't fit.
+use super::gates::CAUSES;
+use super::{
+    CODE_3, DATA_0, DATA_3, Entry, Surroundings, coded, event, fails, user, usual, with_task,
+    without_task,
+};
+use m386_state::event::Cause;
+use std::process::Abort;
+
+/// SS0, the descriptor 0020, the cycles behind the four of the gate and the code, and the fault: its vector, its error code, and
+/// whether that has EXT.
+#[derive(Clone, Copy)]
+struct StackRow {
+    name: &'static str,
+    ss0: u32,
+    stack: Entry,
+    cycles: usize,
+    vector: u8,
+    error: u16,
+    named: bool,
+}
+
+/// A descriptor of whole data or code with this access byte.
+fn segment(access: u8) -> Entry {
+    Entry {
+        low: 0xffff,
+        high: 0x00cf_0000 + u32::from(access) * 0x100,
+    }
+}
+
+#[test]
+fn the_task_names_a_stack(rt: HostRuntime) {
+    let w = usual();
+    let none = without_task(&user());
+    let short = with_task(&user(), 0x3b, 8);
+    for (cause, ext) in CAUSES {
+        fails(&rt, "no task", &w, &none, event(cause, 32), 4, coded(10, 0));
+        fails(
+            &rt,
+            "a short TSS",
+            &w,
+            &short,
+            event(cause, 32),
+            4,
+            coded(10, 0x38 + ext % 2),
+        );
+    }
+}
+
+#[test]
+fn the_inner_stack_passes_its_rules_in_order(rt: HostRuntime) {
+    let rows = [
+        StackRow {
+            name: "null",
+            ss0: 3,
+            stack: DATA_0,
+            cycles: 2,
+            vector: 10,
+            error: 0,
+            named: false,
+        },
+        StackRow {
+            name: "past the limit of the GDT",
+            ss0: 0x38,
+            stack: DATA_0,
+            cycles: 2,
+            vector: 10,
+            error: 0x38,
+            named: true,
+        },
+        StackRow {
+            name: "in an LDT that isn't there",
+            ss0: 0x24,
+            stack: DATA_0,
+            cycles: 2,
+            vector: 10,
+            error: 0x24,
+            named: true,
+        },
+        StackRow {
+            name: "of RPL 3",
+            ss0: 0x23,
+            stack: DATA_0,
+            cycles: 4,
+            vector: 10,
+            error: 0x20,
+            named: true,
+        },
+        StackRow {
+            name: "of DPL 3",
+            ss0: 0x20,
+            stack: DATA_3,
+            cycles: 4,
+            vector: 10,
+            error: 0x20,
+            named: true,
+        },
+        StackRow {
+            name: "that can't be written",
+            ss0: 0x20,
+            stack: segment(0x91),
+            cycles: 4,
+            vector: 10,
+            error: 0x20,
+            named: true,
+        },
+        StackRow {
+            name: "code",
+            ss0: 0x20,
+            stack: segment(0x9b),
+            cycles: 4,
+            vector: 10,
+            error: 0x20,
+            named: true,
+        },
+        StackRow {
+            name: "not present and not writable",
+            ss0: 0x20,
+            stack: segment(0x11),
+            cycles: 4,
+            vector: 10,
+            error: 0x20,
+            named: true,
+        },
+        StackRow {
+            name: "not present and of DPL 3",
+            ss0: 0x20,
+            stack: segment(0x73),
+            cycles: 4,
+            vector: 10,
+            error: 0x20,
+            named: true,
+        },
+        StackRow {
+            name: "not present",
+            ss0: 0x20,
+            stack: segment(0x12),
+            cycles: 4,
+            vector: 12,
+            error: 0x20,
+            named: true,
+        },
+        StackRow {
+            name: "with room for no push, behind the accessed byte",
+            ss0: 0x20,
+            stack: Entry {
+                low: 0x02fa,
+                high: 0x0040_9200,
+            },
+            cycles: 5,
+            vector: 12,
+            error: 0,
+            named: false,
+        },
+        StackRow {
+            name: "that expands downward, with room for two pushes",
+            ss0: 0x20,
+            stack: Entry {
+                low: 0x02f7,
+                high: 0x0040_9700,
+            },
+            cycles: 6,
+            vector: 12,
+            error: 0,
+            named: false,
+        },
+    ];
+    for row in &rows {
+        let w = Surroundings {
+            stack: row.stack,
+            ss0: row.ss0,
+            ..usual()
+        };
+        for (cause, ext) in CAUSES {
+            let added = if row.named { ext % 2 } else { 0 };
+            let fault = coded(row.vector, row.error / 2 * 2 + added);
+            fails(
+                &rt,
+                row.name,
+                &w,
+                &user(),
+                event(cause, 32),
+                4 + row.cycles % 16,
+                fault,
+            );
+        }
+    }
+}
+
+#[test]
+fn an_offset_is_tested_behind_the_stack(rt: HostRuntime) {
+    let w = Surroundings {
+        code: Entry {
+            low: 0x0043,
+            high: 0x0040_9b00,
+        },
+        ..usual()
+    };
+    for (cause, _) in CAUSES {
+        fails(
+            &rt,
+            "an offset past the limit",
+            &w,
+            &user(),
+            event(cause, 32),
+            8,
+            coded(13, 0),
+        );
+    }
+}
+
+#[test]
+fn the_same_level_keeps_its_stack(rt: HostRuntime) {
+    let w = Surroundings {
+        code: CODE_3,
+        stack: DATA_3,
+        ..usual()
+    };
+    let mut p = without_task(&user());
+    p.regs[4] = 9;
+    fails(
+        &rt,
+        "a third push that passes the last offset",
+        &w,
+        &p,
+        event(Cause::External, 32),
+        8,
+        coded(12, 0),
+    );
+}
