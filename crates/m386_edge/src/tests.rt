@@ -9,6 +9,8 @@ use crate::source::Source;
 use crate::std_sink::StdSink;
 use crate::std_source::StdSource;
 use crate::writing::write_whole;
+use std::io;
+use std::io::Read;
 use std::test::Fail;
 
 #[test]
@@ -19,10 +21,10 @@ fn open_gate_lets_pass() {
 #[test]
 fn source_gives_pieces_and_fails_where_told(rt: HostRuntime) -> Result<(), Fail> {
     let bytes = b"abcde".to_vec(rt.alloc())?;
-    let fail_at = [2, 2, 9].to_vec(rt.alloc())?;
+    let fail_at = [2, 2, 5, 9].to_vec(rt.alloc())?;
     let mut source = MemSource::new(bytes, 2, fail_at);
     let mut seen = Vec::new(rt.alloc());
-    for want in [Ok(2), Err(Failed), Ok(2), Ok(1), Ok(0), Ok(0)] {
+    for want in [Ok(2), Err(Failed), Ok(2), Ok(1), Err(Failed), Ok(0)] {
         let mut buf = [0; 3];
         let got = source.read(&mut buf);
         assert_eq!(rt; got, want);
@@ -47,11 +49,12 @@ fn sink_takes_pieces_until_it_is_full(rt: HostRuntime) -> Result<(), Fail> {
 
 #[test]
 fn whole_is_written_up_to_the_failure(rt: HostRuntime) -> Result<(), Fail> {
+    // The write that fails, what comes of it, and what the sink took.
     let cases = [
-        (0, Ok(()), 7),
-        (1, Err(Failed), 0),
-        (3, Err(Failed), 4),
-        (5, Ok(()), 7),
+        (0, Ok(()), "abcdefg"),
+        (1, Err(Failed), ""),
+        (3, Err(Failed), "abcd"),
+        (5, Ok(()), "abcdefg"),
     ];
     for (fails, want, held) in cases {
         let fail_at = [fails].to_vec(rt.alloc())?;
@@ -61,7 +64,7 @@ fn whole_is_written_up_to_the_failure(rt: HostRuntime) -> Result<(), Fail> {
             want,
             "where write {fails} fails"
         );
-        assert_eq!(rt; sink.bytes().len(), held);
+        assert_eq!(rt; sink.bytes(), held.as_bytes());
     }
     Ok(())
 }
@@ -107,8 +110,20 @@ fn std_adapters_move_the_bytes(rt: HostRuntime) -> Result<(), Fail> {
     Ok(())
 }
 
+/// A reader whose reads fail.
+#[derive(Drop)]
+struct BrokenReader;
+
+impl Read for BrokenReader {
+    fn read(&mut self, _buf: &mut [u8]) -> io::Result<usize> {
+        Err(io::Error::from(io::ErrorKind::Other))
+    }
+}
+
 #[test]
 fn std_adapters_count_what_fails(rt: HostRuntime) -> Result<(), Fail> {
+    let mut source = StdSource::new(BrokenReader);
+    assert_eq!(rt; source.read(&mut [0; 4]), Err(Failed));
     let mut small = [0; 4];
     let mut room: &mut [u8] = &mut small;
     let mut sink = StdSink::new(&mut room);
