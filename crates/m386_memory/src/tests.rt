@@ -93,6 +93,7 @@ fn a_write_reaches_its_enabled_bytes_alone(rt: HostRuntime) -> Result<(), Fail> 
 fn past_memory_all_is_ones(rt: HostRuntime) -> Result<(), Fail> {
     let mut record = Record::new(rt.alloc(), Store::new(rt.alloc(), 4096)?);
     assert_eq!(rt; record.put(0, plain(Space::Memory, true, 4096, 1, 5))?, 0);
+    assert_eq!(rt; record.put(0, plain(Space::Memory, false, 0, 1, 0))?, 0);
     assert_eq!(rt;
         record.put(0, plain(Space::Memory, false, 4096, 3, 0))?,
         0xffff
@@ -120,8 +121,12 @@ fn few_bytes_are_poked_and_read(rt: HostRuntime) -> Result<(), Fail> {
         bus.cycle(plain(Space::Memory, false, 4, 15, 0), false),
         Ok(0xffff_0201)
     );
+    assert_eq!(rt;
+        bus.cycle(plain(Space::Memory, false, 0, 15, 0), false),
+        Ok(0)
+    );
     assert_eq!(rt; bus.cycle(plain(Space::Port, false, 4, 1, 0), false), Ok(0));
-    assert_eq!(rt; bus.cycles().len(), 4);
+    assert_eq!(rt; bus.cycles().len(), 5);
     bus.clear();
     assert_eq!(rt; bus.cycles().len(), 0);
     assert_eq!(rt;
