@@ -87,11 +87,12 @@ fn two_processors_exchange(rt: HostRuntime) -> Result<(), Fail> {
 }
 
 /// The processors that made the cycles of a run of the exchange in an order.
-fn makers(alloc: Global, order: &Order) -> Result<List<u8>, Fail> {
-    let image = exchange(alloc)?;
+fn makers(alloc: Global, image: &Image, order: &Order) -> Result<List<u8>, Fail>
+    requires { IsValid image.now }
+{
     let mut cpus = List::new(alloc);
-    if image.cpus >= 2 {
-        let mut machine = Machine::new(alloc, &image, 2, 2)?;
+    if image.cpus >= 1 {
+        let mut machine = Machine::new(alloc, image, image.cpus, 2)?;
         machine.run_order(order)?;
         for cycle in machine.ended().log.cycles() {
             cpus.push(cycle.cpu)?;
@@ -102,6 +103,7 @@ fn makers(alloc: Global, order: &Order) -> Result<List<u8>, Fail> {
 
 #[test]
 fn each_order_names_in_its_way(rt: HostRuntime) -> Result<(), Fail> {
+    let image = exchange(rt.alloc())?;
     let zeros = List::of(vec![in rt.alloc(); 0; 200]?);
     let ones = List::of(vec![in rt.alloc(); 1; 200]?);
     let few = List::of(vec![in rt.alloc(); 9, 1, 0]?);
@@ -114,7 +116,46 @@ fn each_order_names_in_its_way(rt: HostRuntime) -> Result<(), Fail> {
         (Order::List(few), [1, 0, 0, 1, 0, 1, 0, 1, 0, 0, 1, 1]),
     ];
     for (order, wanted) in &rows {
-        let cpus = makers(rt.alloc(), order)?;
+        let cpus = makers(rt.alloc(), &image, order)?;
+        assert_eq!(rt; cpus.as_slice(), wanted.as_slice(), "{order:?}");
+    }
+    Ok(())
+}
+
+/// The image of three processors.
+fn exchange_of_three(alloc: Global) -> Result<Image, ReadStop>
+    ensures { IfOk result IsValid }
+{
+    let mut bytes = EXCHANGE;
+    bytes[6] = 3;
+    bytes[41] = 0x10;
+    read_image(alloc, &bytes)
+}
+
+#[test]
+fn three_are_named_in_turn_behind_one_that_is_passed_over(rt: HostRuntime) -> Result<(), Fail> {
+    let image = exchange_of_three(rt.alloc())?;
+    let few = List::of(vec![in rt.alloc(); 2, 2, 2, 2, 2, 0, 1, 2, 3, 1, 0]?);
+    let rows = [
+        (
+            Order::Round,
+            [0, 1, 2, 0, 1, 2, 0, 1, 2, 0, 1, 2, 0, 0, 1, 1, 2, 2],
+        ),
+        (
+            Order::Seed(0),
+            [2, 0, 1, 1, 2, 2, 2, 2, 2, 0, 1, 0, 0, 1, 0, 0, 1, 1],
+        ),
+        (
+            Order::Seed(1),
+            [2, 0, 0, 0, 0, 2, 2, 1, 0, 0, 1, 1, 1, 1, 1, 2, 2, 2],
+        ),
+        (
+            Order::List(few),
+            [2, 2, 2, 2, 2, 2, 1, 0, 0, 1, 0, 1, 0, 1, 0, 0, 1, 1],
+        ),
+    ];
+    for (order, wanted) in &rows {
+        let cpus = makers(rt.alloc(), &image, order)?;
         assert_eq!(rt; cpus.as_slice(), wanted.as_slice(), "{order:?}");
     }
     Ok(())
@@ -155,6 +196,27 @@ fn a_locked_group_lets_no_other_in(rt: HostRuntime) -> Result<(), Fail> {
     }
     let ended = machine.ended();
     assert_eq!(rt; ended.log.cycles().last(), Some(&swap(1, true, 1)));
+    Ok(())
+}
+
+#[test]
+fn one_amid_a_locked_group_is_due(rt: HostRuntime) -> Result<(), Fail> {
+    let image = exchange(rt.alloc())?;
+    assert!(rt; image.cpus >= 2);
+    let mut machine = Machine::new(rt.alloc(), &image, 2, 2)?;
+    // How often a processor is named, and which is due then. Processor 0 finishes last.
+    for (times, cpu, due) in [
+        (4, 1, Some(0)),
+        (1, 1, Some(1)),
+        (1, 0, Some(1)),
+        (1, 1, Some(0)),
+        (6, 0, None),
+    ] {
+        for _ in 0..times {
+            turn(&mut machine, cpu, false)?;
+        }
+        assert_eq!(rt; machine.due(), due, "{cpu}");
+    }
     Ok(())
 }
 
