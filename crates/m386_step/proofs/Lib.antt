@@ -7,6 +7,7 @@ pub mod Once
 pub mod Keeping
 pub mod Ordinary
 pub mod Rising
+pub mod Runs
 pub mod Short
 pub mod Sources
 pub mod StepLists

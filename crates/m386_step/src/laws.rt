@@ -1,12 +1,17 @@
 //! Laws of the step's definition.
-ghost use Rattle.std.specs.Prelude.{◌≡◌, ◌↔◌, ◌⊎◌, ℕ, ◌≤◌, [], ◌∷◌, ◌++◌, List, length, Ok, Err};
+ghost use Rattle.std.specs.Prelude.{◌≡◌, ◌↔◌, ◌⊎◌, ℕ, ◌≤◌, [], ◌∷◌, ◌++◌, List, length, slice_get, Some, Ok, Err};
 ghost use Rattle.m386_base.specs.declared.ask.Ask.{Ask as AskRecord};
+ghost use Rattle.m386_base.specs.declared.ask.Cycle.{Cycle as CycleRecord};
 ghost use Rattle.m386_base.specs.declared.fault.Break.TheVariants as breaks;
 ghost use Rattle.m386_base.specs.declared.fault.Fault.{Fault as FaultRecord};
+ghost use Rattle.m386_base.specs.Bus.{BusView};
 ghost use Rattle.m386_base.specs.Laws.{AtMost, Obeys};
 ghost use Rattle.m386_step.specs.Keeping.{NoSwitch, with_cycle, KeepsTask, AnyFault};
-ghost use Rattle.m386_base.specs.Phrase.{Whole, Faulted, Wants, follow};
+ghost use Rattle.m386_base.specs.Phrase.{Phrase, Done, Asks, Performs, it, Whole, Faulted, Wants, follow};
 ghost use Rattle.m386_base.specs.Replay.{Found, Lacks, replay};
+ghost use Rattle.m386_image.specs.declared.image.Image.{Image as ImageRecord};
+ghost use Rattle.m386_memory.specs.Contents.{Contents};
+ghost use Rattle.m386_memory.specs.declared.ended.ProcEnd.{ProcEnd};
 ghost use Rattle.m386_state.specs.declared.proc.Proc.{Proc as ProcRecord};
 ghost use Rattle.m386_decode.specs.declared.decoded.Decoded.{Decoded as DecodedRecord};
 ghost use Rattle.m386_step.specs.declared.fetch.Reader.{Reader as ReaderRecord};
@@ -14,6 +19,7 @@ ghost use Rattle.m386_step.specs.Code.{decode_phrase};
 ghost use Rattle.m386_step.specs.Fetched.{DecodesTo, WantsByte};
 ghost use Rattle.m386_step.specs.Judged.{AreJudged};
 ghost use Rattle.m386_step.specs.Once.{FetchesOnce, FetchesDiffer};
+ghost use Rattle.m386_step.specs.Run.{Run, BeginsWith, start_of};
 ghost use Rattle.m386_step.specs.Step.{step_phrase, Follow};
 
 /// A step asks for at most 192 cycles, whatever is answered.
@@ -60,4 +66,16 @@ pub fn decoding_is_the_decoders()
 #[tactic(auto, using(crate::proofs::Keeping::calm_step))]
 pub fn step_keeps_the_task()
     ensures { (p : ProcRecord) → Obeys NoSwitch with_cycle (KeepsTask p) AnyFault [] (step_phrase p) }
+{}
+
+/// What the definitions of a run and of what a call performs allow, and what they don't. Where no step may be made the empty
+/// history is a run, with each processor as it begins, and no history with a cycle is one. What is found without a cycle is
+/// performed with none, and what asks for one isn't. The function does nothing; its clauses are the laws.
+pub fn run_laws()
+    ensures empty { (I : ImageRecord) (c : ℕ) (first : Contents) (E : List (ProcEnd ProcRecord)) → BeginsWith I first → length E ≡ c
+        → ((p : ℕ) (e : ProcEnd ProcRecord) → slice_get E p ≡ Some e → (e.after ≡ start_of I p) × (e.steps ≡ 0))
+        → Run I c 0 [] E }
+    ensures no_run { (I : ImageRecord) (c : ℕ) (x : CycleRecord) (H : List CycleRecord) (E : List (ProcEnd ProcRecord)) → Run I c 0 (x ∷ H) E → ⊥ }
+    ensures none { (v : BusView) (a : ℕ) → Performs (Done a) v v it (Ok a) }
+    ensures some { (q : AskRecord) (k : ℕ → Phrase ℕ) (v : BusView) (a : ℕ) → Performs (Asks q k) v v it (Ok a) → ⊥ }
 {}
