@@ -3,6 +3,7 @@ mod call_gates;
 mod decoding;
 mod looks;
 mod near;
+mod numbers;
 mod pointers;
 mod segments;
 mod stacks;
@@ -15,7 +16,7 @@ ghost use Rattle.std.specs.Prelude.{◌≡◌, ◌<◌, ◌≤◌, [], false, le
 
 use crate::alone::step_alone;
 use crate::answer::Probe;
-use crate::begin::start;
+use crate::begin::{first_store, start};
 use crate::probe::probe;
 use crate::run::run;
 use crate::step::step;
@@ -26,12 +27,14 @@ use m386_base::list::List;
 use m386_base::number::Flags;
 use m386_base::probe::ProbeBus;
 use m386_image::image::{Image, TableAt};
+use m386_image::reading::read_image;
 use m386_memory::fixed::FixedBus;
 use m386_state::event::{Cause, Event};
 use m386_state::proc::{Mode, Proc, start_bare, start_task};
 use m386_state::segment::TableReg;
 use std::alloc::Global;
 use std::process::Abort;
+use std::test::Fail;
 
 /// The bytes at 1010h in each case. Those at 1000h are its code, and all others are 0.
 const DATA: [u8; 8] = [0x11, 0x22, 0x33, 0x44, 0x55, 0x66, 0x77, 0x88];
@@ -493,9 +496,12 @@ fn a_turn_without_an_instruction_makes_no_cycle(rt: HostRuntime) {
     let mut started = in_mode(&task, Mode::Shutdown);
     started.start = None;
     let waiting = requested(&halted, 0x20, false);
+    let mut shadowed = halted;
+    shadowed.shadow = true;
     // The IDT has no entry. What is delivered meets #GP, whose code names the entry, with EXT.
     let cases = [
         ("a turn of a halted processor", halted, halted),
+        ("a turn of one under a shadow", shadowed, halted),
         (
             "a pending #GP, a fault of its class, and so a double fault",
             pending(&halted, 13, Some(0)),
@@ -655,4 +661,26 @@ fn each_processor_starts_with_the_tables_of_the_image(rt: HostRuntime) {
         assert_eq!(rt; (p.gdtr.base, p.gdtr.limit), (0x1111, 0x22));
         assert_eq!(rt; (p.idtr.base, p.idtr.limit), (0x3333, 0x44));
     }
+}
+
+/// An image of 4,096 bytes of memory and one bare processor, with the bytes A1h and A2h at 10h, and B1h at 13h.
+const TWO_SECTIONS: [u8; 83] = [
+    0x4d, 0x33, 0x38, 0x36, 0x01, 0x00, 0x01, 0x00, 0x00, 0x10, 0x00, 0x00, 0x00, 0x00, 0x00, 0x00,
+    0x00, 0x00, 0x00, 0x00, 0x00, 0x00, 0x00, 0x00, 0x00, 0x00, 0x00, 0x00, 0x02, 0x00, 0x00, 0x00,
+    0x00, 0x00, 0x00, 0x00, 0x00, 0x00, 0x00, 0x00, 0x00, 0x00, 0x00, 0x00, 0x00, 0x00, 0x00, 0x00,
+    0x00, 0x00, 0x00, 0x00, 0x00, 0x00, 0x00, 0x00, 0x00, 0x00, 0x00, 0x00, 0x00, 0x00, 0x00, 0x00,
+    0x10, 0x00, 0x00, 0x00, 0x02, 0x00, 0x00, 0x00, 0xa1, 0xa2, 0x13, 0x00, 0x00, 0x00, 0x01, 0x00,
+    0x00, 0x00, 0xb1,
+];
+
+#[test]
+fn memory_begins_with_the_sections_of_the_image(rt: HostRuntime) -> Result<(), Fail> {
+    let image = read_image(rt.alloc(), &TWO_SECTIONS)?;
+    let store = first_store(rt.alloc(), &image)?;
+    assert_eq!(rt; store.size(), 4096);
+    for (addr, value) in [(0x0c, 0), (0x10, 0xb100_a2a1), (0x14, 0)] {
+        assert_eq!(rt; store.read(Space::Memory, addr, 15), value, "{addr:x}");
+        assert_eq!(rt; store.read(Space::Port, addr, 15), 0, "port {addr:x}");
+    }
+    Ok(())
 }
