@@ -19,10 +19,10 @@ const GENERAL_PROTECTION: Break = Break::Fault(Fault {
     code: Some(0),
 });
 
-/// A source that gives one byte, and then meets an exception.
+/// A source that gives a byte, then meets an exception once, and then gives bytes again.
 #[derive(Drop)]
 struct FailingSource {
-    given: bool,
+    calls: u8,
 }
 
 impl ByteSource for FailingSource {
@@ -39,13 +39,13 @@ impl ByteSource for FailingSource {
     ghost gave_more = { λ s t u bytes more first then. tt };
 
     fn next(&mut self) -> Result<u8, Break> {
-        if self.given {
+        self.calls = self.calls.saturating_add(1);
+        if self.calls == 2 {
             return Err(Break::Fault(Fault {
                 vector: 13,
                 code: Some(8),
             }));
         }
-        self.given = true;
         Ok(0x05)
     }
 
@@ -112,7 +112,8 @@ fn fifteen_bytes_are_the_most(rt: HostRuntime) -> Result<(), Fail> {
 
 #[test]
 fn a_break_of_the_source_is_answered(rt: HostRuntime) -> Result<(), Fail> {
-    let end = decode(&mut FailingSource { given: false });
+    let mut source = FailingSource { calls: 0 };
+    let end = decode(&mut source);
     assert_eq!(rt;
         end,
         Err(Break::Fault(Fault {
@@ -120,6 +121,7 @@ fn a_break_of_the_source_is_answered(rt: HostRuntime) -> Result<(), Fail> {
             code: Some(8)
         }))
     );
+    assert_eq!(rt; source.calls, 2);
     Ok(())
 }
 
