@@ -10,7 +10,6 @@ use Rattle.m386_base.specs.Plain.{Plain}
 use Rattle.m386_base.specs.Segments.{cs, ss}
 use Rattle.m386_base.proofs.Plain.{plain_bind, plain_done, plain_faults, plain_if, plain_within}
 use Rattle.m386_desc.specs.Selector.{names_ldt}
-use Rattle.m386_opmap.specs.declared.op.Addr.{Addr}
 use Rattle.m386_opmap.specs.declared.op.Arg.{Arg}
 use Rattle.m386_opmap.specs.declared.op.Arg.TheVariants.{Rel, Mem, Far}
 use Rattle.m386_opmap.specs.declared.op.Op.{Op}
@@ -38,13 +37,14 @@ use Rattle.m386_transfer.proofs.Plain.{stack_for_then, stays_placed, return_plai
 use Rattle.m386_gates.specs.Calls.{released_of, enter_phrase, call_phrase, return_near_phrase, return_by, return_phrase}
 use Rattle.m386_gates.specs.Copies.{copy_phrase, copies_phrase, carry_phrase, carried_phrase}
 use Rattle.m386_gates.specs.Exec.{action_phrase, exec_phrase}
-use Rattle.m386_gates.specs.Far.{read_pointer_phrase, pointer_in, pointer_phrase, linked_phrase, direct_target, direct_phrase, arrive_phrase, through_stack_phrase, gate_at, through_phrase, gate_phrase, is_call_gate, by_type_phrase, far_candidate, far_to_phrase, far_phrase}
+use Rattle.m386_gates.specs.Far.{pointer_in, pointer_phrase, linked_phrase, direct_target, direct_phrase, arrive_phrase, through_stack_phrase, gate_at, through_phrase, gate_phrase, is_call_gate, by_type_phrase, far_candidate, far_to_phrase, far_phrase}
 use Rattle.m386_gates.specs.Near.{near_target, near_phrase, target_of_args, target_phrase, jump_phrase, branch_phrase, counted_down}
 use Rattle.m386_gates.specs.Returns.{behind_one, behind_two, return_far_phrase, far_return_by, far_return_phrase}
 use Rattle.m386_gates.specs.Transfer.{transfer_of, transfer_phrase}
 use Rattle.m386_gates.specs.declared.far.Far.{Far as FarKind}
 use Rattle.m386_gates.specs.declared.far.Far.TheVariants as fars
-use Rattle.m386_gates.specs.declared.far.FarPointer.{FarPointer}
+use Rattle.m386_segload.specs.declared.pointer.FarPointer.{FarPointer}
+use Rattle.m386_segload.proofs.Loads.{plain_pointer}
 use Rattle.m386_gates.specs.declared.near.Near.{Near}
 use Rattle.m386_gates.specs.declared.near.Near.TheVariants.{Jump, Branch, Loop, Empty}
 use Rattle.m386_gates.specs.declared.transfer.Transfer.{Transfer}
@@ -106,13 +106,9 @@ far_return_plain : (op : Op) (p : Proc) → PlainFrom 18 p (far_return_phrase p 
 unfolding far_return_phrase
 far_return_plain op p = far_return_by_plain (released_of op.args.items) p op.width
 
-four_pointer : (p : Proc) (w : Width) (a : Addr) → Plain 4 (Ordinary p.gdtr) Anything [] (read_pointer_phrase p w a)
-unfolding read_pointer_phrase
-four_pointer p w a = search steps
-
 four_pointer_in : (args : List Arg) (p : Proc) (w : Width) → Plain 4 (Ordinary p.gdtr) Anything [] (pointer_in args p w)
 four_pointer_in (Far selector offset ∷ []) p w = plain_done 4 (Ordinary p.gdtr) Anything [] _ tt
-four_pointer_in (Mem a ∷ []) p w = four_pointer p w a
+four_pointer_in (Mem a ∷ []) p w = plain_pointer p.gdtr p [] w a
 four_pointer_in _ p w = plain_faults 4 (Ordinary p.gdtr) Anything [] _
 
 -- CS and EIP pushed, and the state at the target

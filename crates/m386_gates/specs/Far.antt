@@ -1,6 +1,5 @@
 -- Far JMP and CALL: to code that the selector names itself, and through a call gate.
-use Rattle.std.specs.Prelude.{ℕ, Bool, true, false, List, [], ◌∷◌, ◌+◌, ◌%◌, ◌^◌, if◌then◌else◌, Option, Some, None}
-use Rattle.m386_base.specs.declared.ask.Role.TheVariants.{Operand}
+use Rattle.std.specs.Prelude.{ℕ, Bool, true, false, List, [], ◌∷◌, if◌then◌else◌, Option, Some, None}
 use Rattle.m386_base.specs.declared.desc.Desc.{Desc}
 use Rattle.m386_base.specs.declared.number.Width.{Width}
 use Rattle.m386_base.specs.declared.number.Width.TheVariants.{W32}
@@ -12,14 +11,11 @@ use Rattle.m386_desc.specs.declared.kind.Kind.{Kind}
 use Rattle.m386_desc.specs.declared.kind.Kind.TheVariants.{CallGate}
 use Rattle.m386_desc.specs.Access.{kind_of}
 use Rattle.m386_desc.specs.Selector.{code_of}
-use Rattle.m386_opmap.specs.declared.op.Addr.{Addr}
 use Rattle.m386_opmap.specs.declared.op.Arg.{Arg}
 use Rattle.m386_opmap.specs.declared.op.Arg.TheVariants as args
 use Rattle.m386_opmap.specs.declared.op.Op.{Op}
 use Rattle.m386_state.specs.declared.proc.Proc.{Proc}
 use Rattle.m386_state.specs.Start.{cpl_of, seg_at}
-use Rattle.m386_access.specs.Access.{read_phrase}
-use Rattle.m386_access.specs.Address.{segment_number, offset_of}
 use Rattle.m386_segload.specs.declared.rules.Candidate.{Candidate}
 use Rattle.m386_segload.specs.Load.{load_desc_phrase, candidate_for, judge_phrase, take_phrase}
 use Rattle.m386_segload.specs.Rules.{first_broken, need, call_gate_rules, direct_rules, target_rules, jump_target_rules}
@@ -33,20 +29,10 @@ use Rattle.m386_transfer.specs.Gate.{gate_of}
 use Rattle.m386_transfer.specs.Place.{level_of, target_fault, stack_for_phrase, placed}
 use Rattle.m386_gates.specs.declared.far.Far.{Far}
 use Rattle.m386_gates.specs.declared.far.Far.TheVariants.{Jump, Call}
-use Rattle.m386_gates.specs.declared.far.FarPointer.{FarPointer}
+use Rattle.m386_segload.specs.declared.pointer.FarPointer.{FarPointer}
+use Rattle.m386_segload.specs.Pointer.{far_pointer, read_pointer_phrase}
 use Rattle.m386_gates.specs.Copies.{carried_phrase}
 use Rattle.m386_gates.specs.Near.{near_target}
-
-abbrev pub far_pointer : ℕ → ℕ → FarPointer
-far_pointer selector offset = record { selector = selector; offset = offset }
-
--- A far pointer in memory: its offset, and then its selector behind it.
--- Source: Intel 80386 PRM 17.2.2.11, JMP; the order: docs/DECISIONS.md, "Operands of several parts"
-unfoldable pub read_pointer_phrase : Proc → Width → Addr → Phrase FarPointer
-read_pointer_phrase p w a = do
-  offset ← read_phrase p Operand (segment_number a.seg a.base) (offset_of p a) (size_of w)
-  selector ← read_phrase p Operand (segment_number a.seg a.base) ((offset_of p a + size_of w) % 2 ^ 32) 2
-  Done (far_pointer (selector % 2 ^ 16) offset)
 
 abbrev pub pointer_in : List Arg → Proc → Width → Phrase FarPointer
 pointer_in (args.Far selector offset ∷ []) p w = Done (far_pointer selector offset)

@@ -1,13 +1,11 @@
 //! Far JMP and CALL: to code that the selector names itself, and through a call gate (PRM 6.3.3, 6.3.4; 17.2.2.11, CALL, JMP).
 ghost use Rattle.std.specs.Prelude.{◌≡◌, ◌<◌, false, is_some};
 ghost use Rattle.m386_base.specs.Phrase.{Performs, it};
-ghost use Rattle.m386_gates.specs.Far.{read_pointer_phrase, pointer_phrase, linked_phrase, arrive_phrase, direct_phrase, gate_target_phrase, through_stack_phrase, through_phrase, gate_phrase, is_call_gate, by_type_phrase, far_to_phrase, far_phrase};
+ghost use Rattle.m386_gates.specs.Far.{pointer_phrase, linked_phrase, arrive_phrase, direct_phrase, gate_target_phrase, through_stack_phrase, through_phrase, gate_phrase, is_call_gate, by_type_phrase, far_to_phrase, far_phrase};
 
 use crate::copies::carried;
 use crate::near::near_target;
-use m386_access::access::read;
-use m386_access::address::{address, segment};
-use m386_base::ask::Role;
+use m386_access::address::segment;
 use m386_base::bus::{Bus, leave};
 use m386_base::desc::Desc;
 use m386_base::exception::undefined_opcode;
@@ -18,8 +16,9 @@ use m386_desc::access::kind;
 use m386_desc::gate::Gate4;
 use m386_desc::kind::Kind;
 use m386_desc::selector::error_code;
-use m386_opmap::op::{Addr, Arg, Op};
+use m386_opmap::op::{Arg, Op};
 use m386_segload::load::{candidate_for, judge, load_desc, take};
+use m386_segload::pointer::{FarPointer, read_pointer};
 use m386_segload::requirements::first_broken;
 use m386_segload::rules::{
     CALL_GATE_RULES, Candidate, DIRECT_RULES, JUMP_TARGET_RULES, TARGET_RULES,
@@ -39,33 +38,6 @@ pub enum Far {
     Jump,
     /// CALL, which pushes CS and EIP.
     Call,
-}
-
-/// A far pointer.
-#[derive(Clone, Copy)]
-pub struct FarPointer {
-    /// The selector.
-    pub selector: u16,
-    /// The offset.
-    pub offset: u32,
-}
-
-/// A far pointer in memory: its offset, and then its selector behind it. Each part is tested when it is read.
-#[tactic(auto, using(m386_base::proofs::Phrases::calls), unfolding(crate::specs::Far::read_pointer_phrase))]
-fn read_pointer<B: Bus>(p: &Proc, bus: &mut B, width: Width, a: &Addr) -> Result<FarPointer, Break>
-    requires free { (B.view bus.old).kept ≡ false }
-    ensures cycles { Performs (read_pointer_phrase p.now width a.now) (B.view bus.old) (B.view bus.new) it result }
-    ensures free { (B.view bus.new).kept ≡ false }
-{
-    let (seg, at) = address(p, a);
-    let size = size_of(width);
-    let offset = read(p, bus, Role::Operand, seg, at, size)?;
-    let behind = at.wrapping_add(u32::from(size));
-    let selector = read(p, bus, Role::Operand, seg, behind, 2)?;
-    Ok(FarPointer {
-        selector: (selector % 0x1_0000) as u16,
-        offset,
-    })
 }
 
 /// The far pointer of an operation, in the instruction or in memory.

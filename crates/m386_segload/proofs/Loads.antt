@@ -24,7 +24,13 @@ use Rattle.m386_state.specs.declared.segment.TableReg.{TableReg}
 use Rattle.m386_state.specs.Start.{cpl_of}
 use Rattle.m386_access.specs.Access.{memory_pieces, write_ask}
 use Rattle.m386_access.specs.Ordinary.{Ordinary, Writes, Accesses, WasRead, IsSegmentByte, desc_byte, is_read_role, is_behind}
-use Rattle.m386_access.proofs.Phrases.{Anything}
+use Rattle.m386_access.specs.Address.{segment_number, offset_of}
+use Rattle.m386_access.specs.After.{len_of}
+use Rattle.m386_access.proofs.Phrases.{Anything, read_then}
+use Rattle.m386_base.specs.declared.number.Width.{Width}
+use Rattle.m386_opmap.specs.declared.op.Addr.{Addr}
+use Rattle.m386_segload.specs.declared.pointer.FarPointer.{FarPointer}
+use Rattle.m386_segload.specs.Pointer.{read_pointer_phrase}
 use Rattle.m386_segload.specs.declared.rules.Candidate.{Candidate}
 use Rattle.m386_segload.specs.declared.rules.Requirement.{Requirement}
 use Rattle.m386_segload.specs.declared.rules.Requirement.TheVariants as requirements
@@ -271,5 +277,15 @@ plain_look p ts what s = load_desc_then p 4 Anything ts s (table_role s) _ refl 
 pub look_then : (p : Proc) → {B : Type 0} (n : ℕ) (ends : List Ask → B → Type 0) (ts : List Ask) (what : Look) (s : ℕ) (f : Option ℕ → Phrase B) → nat_le 4 n ≡ true → ((us : List Ask) (o : Option ℕ) → Plain (n - 4) (Ordinary p.gdtr) ends us (f o)) → Plain n (Ordinary p.gdtr) ends ts (look_phrase p what s >>= f)
 look_then p n ends ts what s f l k = plain_bind 4 n (Ordinary p.gdtr) Anything ends ts _ f (grind (arith, l)) (plain_look p ts what s) (λ us v o. k us v)
 
+pub plain_pointer : (gdt : TableReg) (p : Proc) (ts : List Ask) (w : Width) (a : Addr) → Plain 4 (Ordinary gdt) Anything ts (read_pointer_phrase p w a)
+unfolding read_pointer_phrase
+plain_pointer gdt p ts w a =
+    read_then gdt 4 Anything ts p roles.Operand (segment_number a.seg a.base) (offset_of p a) (len_of w) _ refl refl (λ us offset.
+    read_then gdt 2 Anything us p roles.Operand (segment_number a.seg a.base) ((offset_of p a + len_of w) % 2 ^ 32) 2 _ refl refl (λ vs selector. plain_done 0 (Ordinary gdt) Anything vs _ tt))
+
+-- A far pointer in memory, at most four cycles, and what follows.
+pub pointer_then : (gdt : TableReg) → {B : Type 0} (n : ℕ) (ends : List Ask → B → Type 0) (ts : List Ask) (p : Proc) (w : Width) (a : Addr) (f : FarPointer → Phrase B) → nat_le 4 n ≡ true → ((us : List Ask) (to : FarPointer) → Plain (n - 4) (Ordinary gdt) ends us (f to)) → Plain n (Ordinary gdt) ends ts (read_pointer_phrase p w a >>= f)
+pointer_then gdt n ends ts p w a f l k = plain_bind 4 n (Ordinary gdt) Anything ends ts _ f (grind (arith, l)) (plain_pointer gdt p ts w a) (λ us v o. k us v)
+
 -- how the phrase of an operation is made of loads
-pub ruleset loads = (take_then, stack_segment_then, segment_then, local_table_then, look_then)
+pub ruleset loads = (take_then, stack_segment_then, segment_then, local_table_then, look_then, pointer_then)

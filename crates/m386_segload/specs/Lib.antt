@@ -2,6 +2,7 @@ pub mod Arpl
 pub mod Descriptors
 pub mod Load
 pub mod Look
+pub mod Pointer
 pub mod Requirements
 pub mod Rules
 pub mod Segments

@@ -7,6 +7,7 @@ pub mod descriptor;
 pub mod laws;
 pub mod load;
 pub mod look;
+pub mod pointer;
 pub mod requirements;
 pub mod rules;
 pub mod segment;

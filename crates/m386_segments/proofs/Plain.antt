@@ -1,5 +1,5 @@
 -- The law of each kind of work.
-use Rattle.std.proofs.Common.{◌≡◌, ℕ, ◌+◌, ◌/◌, ◌%◌, ◌^◌, ◌==◌, refl, ap, arith, Option, Some, None, List, [], Bool, true, false}
+use Rattle.std.proofs.Common.{◌≡◌, ℕ, ◌/◌, ◌%◌, ◌^◌, ◌==◌, refl, ap, arith, Option, Some, None, List, [], Bool, true, false}
 use Rattle.m386_base.specs.declared.ask.Ask.{Ask}
 use Rattle.m386_base.specs.declared.ask.Role.TheVariants as roles
 use Rattle.m386_base.specs.declared.flags.Flag.TheVariants.{Zero}
@@ -15,22 +15,23 @@ use Rattle.m386_state.specs.declared.proc.Proc.{Proc}
 use Rattle.m386_state.specs.declared.segment.Seg.{Seg}
 use Rattle.m386_state.specs.Start.{seg_at}
 use Rattle.m386_access.specs.Address.{segment_number, offset_of, may_write, linear_of}
-use Rattle.m386_access.specs.After.{len_of, register_at}
+use Rattle.m386_access.specs.After.{register_at}
 use Rattle.m386_access.specs.Operands.{operands_of}
 use Rattle.m386_access.specs.Ordinary.{Ordinary, Keeps, PlainFrom}
 use Rattle.m386_access.specs.declared.operands.Operands.{Operands}
 use Rattle.m386_access.specs.declared.operands.Place.{Place}
 use Rattle.m386_access.specs.declared.operands.Place.TheVariants.{Register, Number, Memory, Other}
-use Rattle.m386_access.proofs.Phrases.{Stays, Anything, keeps_stays, stays_same, stays_register, stays_if, value_then, read_then, reads_then, writes_then, put_plain, on_register_plain, on_memory_plain, on_one_plain, on_two_plain}
+use Rattle.m386_access.proofs.Phrases.{Stays, Anything, keeps_stays, stays_same, stays_register, stays_if, value_then, reads_then, writes_then, put_plain, on_register_plain, on_memory_plain, on_one_plain, on_two_plain}
 use Rattle.m386_segload.specs.declared.wanted.Look.{Look}
 use Rattle.m386_segload.specs.Arpl.{arpl_of}
 use Rattle.m386_segload.specs.Segments.{with_segment}
-use Rattle.m386_segload.proofs.Loads.{segment_then, look_then}
+use Rattle.m386_segload.specs.declared.pointer.FarPointer.{FarPointer}
+use Rattle.m386_segload.proofs.Loads.{segment_then, look_then, pointer_then}
 use Rattle.m386_segments.specs.Adjust.{with_adjusted, store_raised_phrase, adjust_memory_phrase, adjust_in_phrase, adjust_place_phrase, adjust_phrase}
 use Rattle.m386_segments.specs.Exec.{work_phrase, named_phrase, exec_phrase}
 use Rattle.m386_segments.specs.Found.{found_phrase, with_shown, show_into_phrase, show_phrase, verify_place_phrase, verify_phrase}
 use Rattle.m386_segments.specs.Names.{segment_work_of, segment_move_of}
-use Rattle.m386_segments.specs.Pointers.{read_pointer_phrase, load_both_phrase, load_pointer_phrase, pointer_phrase}
+use Rattle.m386_segments.specs.Pointers.{load_both_phrase, load_pointer_phrase, pointer_phrase}
 use Rattle.m386_segments.specs.Registers.{may_be_loaded, with_loaded, load_known_phrase, load_register_phrase, move_phrase}
 use Rattle.m386_segments.specs.Zero.{with_zero}
 use Rattle.m386_segments.specs.declared.names.SegmentMove.{SegmentMove}
@@ -71,22 +72,15 @@ move_plain (Some (To seg source)) p = load_register_plain p seg source
 move_plain (Some (From destination seg)) p = put_plain 9 W16 p p destination _ [] refl (stays_same p)
 move_plain None p = plain_faults 9 (Ordinary p.gdtr) (Keeps p) [] _
 
-load_both_plain : (p : Proc) (us : List Ask) (w : Width) (seg register : ℕ) (pointer : ℕ × ℕ) → Plain 5 (Ordinary p.gdtr) (Keeps p) us (load_both_phrase p w seg register pointer)
+load_both_plain : (p : Proc) (us : List Ask) (w : Width) (seg register : ℕ) (pointer : FarPointer) → Plain 5 (Ordinary p.gdtr) (Keeps p) us (load_both_phrase p w seg register pointer)
 unfolding load_both_phrase
 load_both_plain p us w seg register pointer =
     segment_then p 5 (Keeps p) us seg _ _ refl (λ vs value.
     plain_done 0 (Ordinary p.gdtr) (Keeps p) vs _ (keeps_stays p vs _ (stays_segment p _ seg value (stays_register w p p register _ (stays_same p)))))
 
-read_pointer_plain : (p : Proc) (ts : List Ask) (w : Width) (a : Addr) → Plain 4 (Ordinary p.gdtr) Anything ts (read_pointer_phrase p w a)
-unfolding read_pointer_phrase
-read_pointer_plain p ts w a =
-    read_then p.gdtr 4 Anything ts p roles.Operand (segment_number a.seg a.base) (offset_of p a) (len_of w) _ refl refl (λ us offset.
-    read_then p.gdtr 2 Anything us p roles.Operand (segment_number a.seg a.base) ((offset_of p a + len_of w) % 2 ^ 32) 2 _ refl refl (λ vs selector.
-    plain_done 0 (Ordinary p.gdtr) Anything vs _ tt))
-
 load_pointer_plain : (p : Proc) (ts : List Ask) (w : Width) (seg register : ℕ) (a : Addr) → Plain 9 (Ordinary p.gdtr) (Keeps p) ts (load_pointer_phrase p w seg register a)
 unfolding load_pointer_phrase
-load_pointer_plain p ts w seg register a = plain_bind 4 9 (Ordinary p.gdtr) Anything (Keeps p) ts _ _ (omega arith) (read_pointer_plain p ts w a) (λ us pointer o. load_both_plain p us w seg register pointer)
+load_pointer_plain p ts w seg register a = pointer_then p.gdtr 9 (Keeps p) ts p w a _ refl (λ us pointer. load_both_plain p us w seg register pointer)
 
 pointer_plain : (seg : ℕ) (w : Width) (operands : Operands) (p : Proc) → PlainFrom 9 p (pointer_phrase seg w operands p)
 pointer_plain seg w operands p =

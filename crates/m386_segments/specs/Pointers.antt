@@ -1,28 +1,19 @@
 -- Far pointers that are loaded.
-use Rattle.std.specs.Prelude.{ℕ, ◌+◌, ◌%◌, ◌^◌}
-use Rattle.m386_base.specs.declared.ask.Role.TheVariants as roles
+use Rattle.std.specs.Prelude.{ℕ}
 use Rattle.m386_base.specs.declared.number.Width.{Width}
 use Rattle.m386_base.specs.Phrase.{Phrase, Done, ◌>>=◌}
 use Rattle.m386_opmap.specs.declared.op.Addr.{Addr}
 use Rattle.m386_state.specs.declared.proc.Proc.{Proc}
-use Rattle.m386_access.specs.Access.{read_phrase}
-use Rattle.m386_access.specs.Address.{segment_number, offset_of}
-use Rattle.m386_access.specs.After.{len_of, with_register_at}
+use Rattle.m386_access.specs.After.{with_register_at}
 use Rattle.m386_access.specs.Operands.{on_register, on_memory, on_two}
 use Rattle.m386_access.specs.declared.operands.Operands.{Operands}
+use Rattle.m386_segload.specs.declared.pointer.FarPointer.{FarPointer}
+use Rattle.m386_segload.specs.Pointer.{read_pointer_phrase}
 use Rattle.m386_segload.specs.Segments.{segment_phrase, with_segment}
 
--- A far pointer in memory: its offset, of 2 or 4 bytes, and its selector, of 2, right behind it. Each is tested when it is read.
--- Source: Intel 80386 PRM 17.2.2.11, LGS/LSS/LDS/LES/LFS; the order: docs/DECISIONS.md, "Far pointers in memory"
-unfoldable pub read_pointer_phrase : Proc → Width → Addr → Phrase (ℕ × ℕ)
-read_pointer_phrase p w a =
-    let seg = segment_number a.seg a.base in
-    let at = offset_of p a in
-    read_phrase p roles.Operand seg at (len_of w) >>= (λ offset. read_phrase p roles.Operand seg ((at + len_of w) % 2 ^ 32) 2 >>= (λ selector. Done (offset, selector % 2 ^ 16)))
-
 -- an offset and a selector, loaded together
-unfoldable pub load_both_phrase : Proc → Width → ℕ → ℕ → ℕ × ℕ → Phrase Proc
-load_both_phrase p w seg register pointer = segment_phrase p seg pointer.1 >>= (λ value. Done (with_segment (with_register_at w p register pointer.0) seg value))
+unfoldable pub load_both_phrase : Proc → Width → ℕ → ℕ → FarPointer → Phrase Proc
+load_both_phrase p w seg register pointer = segment_phrase p seg pointer.selector >>= (λ value. Done (with_segment (with_register_at w p register pointer.offset) seg value))
 
 -- A far pointer read and loaded: both registers change together.
 -- Source: Intel 80386 PRM 17.2.2.11, LGS/LSS/LDS/LES/LFS

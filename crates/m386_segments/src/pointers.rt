@@ -1,35 +1,18 @@
 //! Far pointers that are loaded: LDS, LES, LFS, LGS and LSS.
 ghost use Rattle.std.specs.Prelude.{◌≡◌, false};
 ghost use Rattle.m386_base.specs.Phrase.{Performs, it};
-ghost use Rattle.m386_segments.specs.Pointers.{read_pointer_phrase, load_both_phrase, load_pointer_phrase, pointer_phrase};
+ghost use Rattle.m386_segments.specs.Pointers.{load_both_phrase, load_pointer_phrase, pointer_phrase};
 
-use m386_access::access::read;
-use m386_access::address::address;
-use m386_access::after::{len_of, with_register_at};
+use m386_access::after::with_register_at;
 use m386_access::operands::{Operands, Place};
-use m386_base::ask::Role;
 use m386_base::bus::Bus;
 use m386_base::exception::undefined_opcode;
 use m386_base::fault::Break;
 use m386_base::number::Width;
 use m386_opmap::op::Addr;
+use m386_segload::pointer::{FarPointer, read_pointer};
 use m386_segload::segment::{segment_for, with_segment};
 use m386_state::proc::Proc;
-
-/// The offset of a far pointer, of 2 or 4 bytes by the width, and the selector behind it, of 2. Each is tested when it is read.
-#[tactic(auto, using(m386_base::proofs::Phrases::calls), unfolding(crate::specs::Pointers::read_pointer_phrase))]
-fn read_pointer<B: Bus>(p: &Proc, bus: &mut B, width: Width, a: &Addr) -> Result<(u32, u16), Break>
-    requires free { (B.view bus.old).kept ≡ false }
-    ensures cycles { Performs (read_pointer_phrase p.now width a.now) (B.view bus.old) (B.view bus.new) it result }
-    ensures free { (B.view bus.new).kept ≡ false }
-{
-    let (seg, at) = address(p, a);
-    let len = len_of(width);
-    let offset = read(p, bus, Role::Operand, seg, at, len)?;
-    let behind = at.wrapping_add(u32::from(len));
-    let selector = read(p, bus, Role::Operand, seg, behind, 2)?;
-    Ok((offset, (selector % 0x1_0000) as u16))
-}
 
 /// A general register put to an offset, by its width, and a segment register, by its number, loaded by a selector.
 #[tactic(auto, using(m386_base::proofs::Phrases::calls), unfolding(crate::specs::Pointers::load_both_phrase))]
@@ -39,14 +22,14 @@ fn load_both<B: Bus>(
     width: Width,
     seg: u8,
     register: u8,
-    pointer: (u32, u16),
+    pointer: FarPointer,
 ) -> Result<Proc, Break>
     requires free { (B.view bus.old).kept ≡ false }
     ensures cycles { Performs (load_both_phrase p.now width seg register pointer) (B.view bus.old) (B.view bus.new) it result }
     ensures free { (B.view bus.new).kept ≡ false }
 {
-    let loaded = segment_for(p, bus, seg, pointer.1)?;
-    let moved = with_register_at(width, p, register, pointer.0);
+    let loaded = segment_for(p, bus, seg, pointer.selector)?;
+    let moved = with_register_at(width, p, register, pointer.offset);
     Ok(with_segment(&moved, seg, loaded))
 }
 
