@@ -59,7 +59,7 @@ fn reads_an_image_and_writes_it_back(rt: HostRuntime) -> Result<(), Fail> {
 }
 
 /// How many of the first bytes of `BARE` are kept, which are replaced, what stands behind them, and the fault.
-static FAULTY: [(usize, &[(usize, u8)], &[u8], ImageFault); 58] = [
+static FAULTY: [(usize, &[(usize, u8)], &[u8], ImageFault); 59] = [
     (63, &[], &[], ImageFault::ShortHeader),
     (63, &[(0, 0)], &[], ImageFault::ShortHeader),
     (83, &[(3, 0x37)], &[], ImageFault::Magic),
@@ -132,6 +132,12 @@ static FAULTY: [(usize, &[(usize, u8)], &[u8], ImageFault); 58] = [
     (64, &[(24, 2), (28, 0)], &[0; 15], ImageFault::Truncated),
     (64, &[(24, 2), (28, 0)], &[0; 16], ImageFault::PlanOrder),
     (64, &[(24, 1), (28, 0)], &[0; 9], ImageFault::Trailing),
+    (
+        64,
+        &[(24, 1)],
+        &[0, 0, 0, 0, 0, 0, 0, 0, 0x00, 0x40, 0, 0, 0x01, 0, 0, 0, 9],
+        ImageFault::PlanOrder,
+    ),
     (
         64,
         &[(24, 0), (27, 0x20), (28, 0)],
