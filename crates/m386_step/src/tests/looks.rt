@@ -2,7 +2,7 @@
 use super::segments::{held, leveled, table, with};
 use super::{Case, at, fetch, flagged, joined, loaded, pending, read, step_over_values, write};
 use m386_base::ask::Role;
-use m386_state::proc::{Proc, unusable};
+use m386_state::proc::Proc;
 use std::process::Abort;
 
 /// LAR EAX, ECX; LSL EAX, ECX; VERR CX; VERW CX.
@@ -75,7 +75,7 @@ fn each_type_is_looked_at_from_each_level(rt: HostRuntime) {
 #[test]
 fn nothing_is_found_outside_the_tables(rt: HostRuntime) {
     let mut none = naming(0, 0x14);
-    none.ldtr = unusable(0);
+    none.ldtr.usable = false;
     for place in [0, 1, 2, 3] {
         assert!(rt; place < 4);
         for before in [

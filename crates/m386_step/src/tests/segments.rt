@@ -242,7 +242,7 @@ fn a_table_ends_with_its_limit(rt: HostRuntime) {
     let mut local = naming(0, 0x14);
     local.ldtr.desc = Desc::new(0x1900, 0x16, 0x82, 0);
     let mut none = naming(0, 0x14);
-    none.ldtr = unusable(0);
+    none.ldtr.usable = false;
     for (before, code) in [(short, 0x10), (local, 0x14), (none, 0x14)] {
         let case = Case {
             name: "MOV DS, AX",
