@@ -36,12 +36,8 @@ fn enter<B: Bus>(p: &Proc, bus: &mut B, width: Width, target: u32) -> Result<Pro
     if !is_in_code(p, target) {
         return Err(Break::Fault(general_protection()));
     }
-    let stack = push(
-        bus,
-        &own_stack(p),
-        size_of(width),
-        near_target(width, p.eip),
-    )?;
+    let link = near_target(width, p.eip);
+    let stack = push(bus, &own_stack(p), size_of(width), link)?;
     Ok(at_eip(&with_pointer(p, &stack), target))
 }
 

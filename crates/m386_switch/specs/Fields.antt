@@ -10,7 +10,7 @@ use Rattle.m386_access.specs.Access.{memory_pieces}
 use Rattle.m386_tss.specs.Fields.{field_at}
 
 -- A group of a field, read. Its part is the field's number.
--- Own choice: docs/DECISIONS.md, "Parts of cycles"
+-- Own choice: docs/DECISIONS.md, "The form of a bus cycle"
 abbrev pub field_ask : Role → ℕ → Piece → Ask
 field_ask role number p = record { space = Memory; write = false; joined = false; role = role; part = number; addr = p.addr; enables = p.enables; value = 0 }
 
