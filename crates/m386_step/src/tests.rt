@@ -1,4 +1,5 @@
 //! Worked steps: each over a bus of a few bytes, and over every front of the values that it reads.
+mod boundaries;
 mod call_gates;
 mod decoding;
 mod looks;
