@@ -2,6 +2,7 @@
 mod boundaries;
 mod call_gates;
 mod decoding;
+mod events;
 mod looks;
 mod near;
 mod numbers;
