@@ -281,3 +281,56 @@ fn a_program_asks_for_events(rt: HostRuntime) {
     assert!(rt; !delivers(&operation(Name::Iret, Width::W32), &kernel()));
     assert!(rt; !takes(&operation(Name::Int, Width::W32)));
 }
+
+/// The level of a handler, its IOPL, and the flags behind IRET of an image of all ones, where IF was clear, and of all zeros, where it
+/// was set.
+const LEVELS: [(u16, u32, u32, u32); 16] = [
+    (0, 0x0000, 0x7fd7, 0x0002),
+    (0, 0x1000, 0x7fd7, 0x0002),
+    (0, 0x2000, 0x7fd7, 0x0002),
+    (0, 0x3000, 0x7fd7, 0x0002),
+    (1, 0x0000, 0x4dd7, 0x0202),
+    (1, 0x1000, 0x5fd7, 0x1002),
+    (1, 0x2000, 0x6fd7, 0x2002),
+    (1, 0x3000, 0x7fd7, 0x3002),
+    (2, 0x0000, 0x4dd7, 0x0202),
+    (2, 0x1000, 0x5dd7, 0x1202),
+    (2, 0x2000, 0x6fd7, 0x2002),
+    (2, 0x3000, 0x7fd7, 0x3002),
+    (3, 0x0000, 0x4dd7, 0x0202),
+    (3, 0x1000, 0x5dd7, 0x1202),
+    (3, 0x2000, 0x6dd7, 0x2202),
+    (3, 0x3000, 0x7fd7, 0x3002),
+];
+
+#[test]
+fn each_level_changes_its_flags(rt: HostRuntime) {
+    for (level, iopl, ones, zeros) in LEVELS {
+        // Conforming code runs at each level.
+        let w = Surroundings {
+            code: Entry {
+                low: 0xffff,
+                high: 0x00cf_9f00,
+            },
+            ..usual()
+        };
+        let data = flat(0x33, 0xf3);
+        let code = flat(0x18 + level % 4, 0x9f);
+        let mut p = kernel();
+        p.segs = [data, code, data, data, data, data];
+        let frame = Frame {
+            eip: 0x44,
+            cs: 0x18 + u32::from(level),
+            flags: 0xffff_ffff,
+            esp: 0,
+            ss: 0,
+        };
+        let all = flagged(&p, iopl % 0x1_0000 + 2);
+        let end = program(&p, 0x44, 0x28c, ones);
+        leaves(&rt, "ones", &w, &all, frame, 5, Ok(end));
+        let none = Frame { flags: 0, ..frame };
+        let set = flagged(&p, iopl % 0x1_0000 + 0x202);
+        let end = program(&p, 0x44, 0x28c, zeros);
+        leaves(&rt, "zeros", &w, &set, none, 5, Ok(end));
+    }
+}

@@ -1,9 +1,12 @@
 //! The change to an inner stack, which fails at each of its rules, and frames that don't fit.
 use super::gates::CAUSES;
 use super::{
-    CODE_3, DATA_0, DATA_3, Entry, Surroundings, coded, event, fails, user, usual, with_task,
-    without_task,
+    CODE_3, DATA_0, DATA_3, Entry, Surroundings, bus_of, coded, event, fails, joined, makes, read,
+    user, usual, with_task, without_task,
 };
+use crate::deliver::deliver;
+use m386_base::ask::Role;
+use m386_base::fault::Break;
 use m386_state::event::Cause;
 use std::process::Abort;
 
@@ -227,4 +230,59 @@ fn the_same_level_keeps_its_stack(rt: HostRuntime) {
         8,
         coded(12, 0),
     );
+}
+
+#[test]
+fn each_inner_level_has_its_fields(rt: HostRuntime) {
+    // The code's access byte, the greatest limit of a TSS that is too short, and the places and values of ESP and SS.
+    let rows = [
+        (
+            0x9b00,
+            8,
+            read(Role::Inner, 1, 0x184, 15, 0x300),
+            read(Role::Inner, 2, 0x188, 3, 3),
+        ),
+        (
+            0xbb00,
+            16,
+            read(Role::Inner, 3, 0x18c, 15, 0),
+            read(Role::Inner, 4, 0x190, 3, 0),
+        ),
+        (
+            0xdb00,
+            24,
+            read(Role::Inner, 5, 0x194, 15, 0),
+            read(Role::Inner, 6, 0x198, 3, 0),
+        ),
+    ];
+    for (access, short, esp, ss) in rows {
+        let w = Surroundings {
+            code: Entry {
+                low: 0xffff,
+                high: 0x00cf_0000 + access % 0x1_0000,
+            },
+            ss0: 3,
+            ..usual()
+        };
+        let e = event(Cause::External, 32);
+        let before = with_task(&user(), 0x3b, short % 0x100);
+        fails(&rt, "a short TSS", &w, &before, e, 4, coded(10, 0x39));
+        let before = with_task(&user(), 0x3b, short % 0x100 + 1);
+        let mut p = before;
+        let mut bus = bus_of(&w);
+        assert_eq!(rt;
+            deliver(&mut p, &mut bus, e),
+            Err(Break::Fault(coded(10, 0)))
+        );
+        assert_eq!(rt; p, before);
+        let cycles = [
+            read(Role::Idt, 0, 0x100, 15, 0x0018_0044),
+            joined(read(Role::Idt, 0, 0x104, 15, 0xee00)),
+            read(Role::Gdt, 0, 0x128, 15, 0xffff),
+            joined(read(Role::Gdt, 0, 0x12c, 15, w.code.high)),
+            esp,
+            ss,
+        ];
+        makes(&rt, "a null stack", &bus, &cycles);
+    }
 }
