@@ -26,12 +26,13 @@ FIRST = bytes.fromhex("b878563412a300200000f4")
 ROUND = ["run", "--order=round"]
 
 
-def image(code=FIRST, cpus=1, memory=16384, gdt=(0, 0), idt=(0, 0), more=()):
-    """An image whose processors all begin at 1000h, where the code stands, with further sections."""
+def image(code=FIRST, cpus=1, memory=16384, gdt=(0, 0), idt=(0, 0), more=(), plan=()):
+    """An image whose processors all begin at 1000h, where the code stands, with further sections and a plan of (step, processor, vector)."""
     sections = [(0x1000, code), *more]
     head = b"M386" + (1).to_bytes(2, "little") + bytes([cpus, 0]) + memory.to_bytes(4, "little")
     head += gdt[0].to_bytes(4, "little") + gdt[1].to_bytes(2, "little") + idt[1].to_bytes(2, "little") + idt[0].to_bytes(4, "little")
-    head += bytes(4) + len(sections).to_bytes(4, "little") + (0x1000).to_bytes(4, "little") * cpus + bytes(4 * (8 - cpus))
+    head += len(plan).to_bytes(4, "little") + len(sections).to_bytes(4, "little") + (0x1000).to_bytes(4, "little") * cpus + bytes(4 * (8 - cpus))
+    head += b"".join(step.to_bytes(4, "little") + bytes([cpu, vector, 0xEE, 0xEE]) for step, cpu, vector in plan)
     return head + b"".join(at.to_bytes(4, "little") + len(data).to_bytes(4, "little") + data for at, data in sections)
 
 
@@ -183,6 +184,43 @@ def ample(checks):
     checks.want(ends(checks.run(["--steps=2"], many))[0][4] == "2", "4,097 sections")
 
 
+# MOV ESP, 2000h; STI; HLT; HLT, an IRET as the handler of vector 20h, flat code and data, and the interrupt gate: examples/timer.img.
+TIMER = {
+    "code": bytes.fromhex("bc00200000fbf4f4"),
+    "gdt": (0x1800, 0x17),
+    "idt": (0x1900, 0x107),
+    "more": [(0x1100, b"\xcf"), (0x1808, bytes.fromhex("ffff0000009acf00ffff00000092cf00")), (0x1A00, bytes.fromhex("00110800008e0000"))],
+}
+
+
+def plans(checks):
+    """Which plans are an image's, and what a planned interrupt does."""
+    for entries, cpus, taken in [
+        ([(0, 0, 0)], 1, True), ([(2**32 - 1, 0, 255)], 1, True), ([(0, 1, 32)], 1, False), ([(0, 255, 32)], 8, False), ([(0, 7, 32)], 8, True),
+        ([(1, 0, 32), (2, 0, 32)], 1, True), ([(1, 0, 32), (1, 0, 33)], 1, False), ([(2, 0, 32), (1, 0, 32)], 1, False),
+        ([(9, 0, 32), (0, 1, 32)], 2, True), ([(0, 1, 32), (9, 0, 32)], 2, False), ([(i, 0, i % 256) for i in range(5_000)], 1, True),
+    ]:
+        checks.call([*ROUND, "--steps=0"], image(HALT, cpus=cpus, plan=entries), *((0,) if taken else (5, IMAGE[8])))
+    disordered = image(HALT, plan=[(1, 0, 32), (1, 0, 32)], more=[(0x900, b"")])
+    checks.call([*ROUND, "--steps=0"], disordered, 5, IMAGE[8])
+    checks.call([*ROUND, "--steps=0"], disordered[:-1], 5, IMAGE[7])
+    with open(os.path.join(os.path.dirname(os.path.abspath(__file__)), "..", "examples", "timer.img"), "rb") as example:
+        data = example.read()
+    made = bytearray(image(plan=[(3, 0, 32)], **TIMER))
+    made[70:72] = bytes(2)
+    checks.want(data == bytes(made), "examples/timer.img is what its text says")
+    lines = checks.run(["--steps=6"], data)
+    roles = [c[5] for c in cycles(lines)]
+    checks.want(roles == ["fetch"] * 4 + ["idt", "idt", "gdt", "gdt", "gdtacc", "push", "push", "push", "fetch", "pop", "pop", "flags", "gdt", "gdt", "fetch"], f"a planned interrupt: {roles}")
+    checks.want(ends(lines)[0][2:8] == ["halted", "steps", "6", "eip", "00001008", "efl"], "and the halted processor that it woke")
+    # Before step 3 IF is clear, or the shadow of STI stands: an earlier request waits, and is taken behind HLT. A later one finds the processor halted there.
+    for step in (0, 1, 2, 3, 9):
+        pushed = [c[9] for c in cycles(checks.run(["--steps=12"], image(plan=[(step, 0, 32)], **TIMER))) if c[5] == "push"]
+        checks.want(pushed == ["00000202", "00000008", "00001007"], f"an entry of step {step}: {pushed}")
+    two = [c[9] for c in cycles(checks.run(["--steps=20"], image(plan=[(0, 0, 32), (1, 0, 32)], **TIMER))) if c[5] == "push"]
+    checks.want(two == ["00000202", "00000008", "00001007"] * 2, f"of two entries that are due the second waits until the first's handler has returned: {two}")
+
+
 def verdicts(checks):
     """The last line, by the limit of the GDT and where it lies."""
     for gdt, idt, line in [((0, 0), (0, 0), "clean"), ((0, 14), (0, 0xFFFF), "clean"), ((0, 15), (0, 0), "unjudged"), ((0x3FF1, 14), (0, 0), "clean"),
@@ -193,7 +231,7 @@ def verdicts(checks):
 
 def main():
     checks = Checks(sys.argv[1])
-    for part in (statuses, limits, causes, orders, ample, verdicts):
+    for part in (statuses, limits, causes, orders, ample, plans, verdicts):
         part(checks)
     print(f"{sys.argv[1]}: {checks.made} checks of the program, {checks.wrong} wrong")
     return 1 if checks.wrong else 0
