@@ -1,6 +1,7 @@
 pub mod Beginning
 pub mod Groups
 pub mod Growing
+pub mod InOrders
 pub mod Keeping
 pub mod Lengths
 pub mod Orders
