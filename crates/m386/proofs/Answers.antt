@@ -17,7 +17,7 @@ use Rattle.m386.specs.declared.status.Status.{Status}
 use Rattle.m386.specs.declared.status.Status.TheVariants.{Done, Memory, Usage, ReadFault, WriteFault, Image, TooLong}
 
 -- words that are refused aren't valid
-not_both : {A : Type 0} (words : List (List ℕ)) (kind : UsageKind) (asked : Asked) → words_mean words ≡ Err kind → words_mean words ≡ Ok asked → A
+pub not_both : {A : Type 0} (words : List (List ℕ)) (kind : UsageKind) (asked : Asked) → words_mean words ≡ Err kind → words_mean words ≡ Ok asked → A
 not_both words kind asked e o = let d : Err kind ≡ Ok asked = sym e ∙ o in cc
 
 -- words ask for one run
@@ -90,7 +90,7 @@ not_faulty : {A : Type 0} (bytes : List ℕ) (image : ImageData) (fault : ImageF
 not_faulty bytes image fault i f = absurd (image_no_fault bytes image i fault f.stands)
 
 -- what was read and asked for is what was told and meant
-met : (words : List (List ℕ)) (old new : Edges) (a b : Asked) (bytes told : List ℕ) (i j : ImageData) → words_mean words ≡ Ok a → words_mean words ≡ Ok b → SourceGave old new bytes → old.left ≡ Some told → ImageOf bytes i → ImageOf told j → refusal i a ≡ refusal j b
+pub met : (words : List (List ℕ)) (old new : Edges) (a b : Asked) (bytes told : List ℕ) (i j : ImageData) → words_mean words ≡ Ok a → words_mean words ≡ Ok b → SourceGave old new bytes → old.left ≡ Some told → ImageOf bytes i → ImageOf told j → refusal i a ≡ refusal j b
 met words old new a b bytes told i j x y r l m n =
     let same : bytes ≡ told = gave_all old new bytes told r l in
     let one : i ≡ j = image_same told i j (rw same at m) n in
@@ -135,7 +135,7 @@ answer_excess words old new TooLong h asked bytes image kind w l short i f r =
     absurd (omega (arith, gave_short old.left new.left h.1.0 bytes h.1.2 l, h.1.1))
 
 -- bytes with a fault aren't run
-not_run : {A : Type 0} (words : List (List ℕ)) (old new : Edges) (text bytes : List ℕ) (fault : ImageFault) → IsReport words old new text → old.left ≡ Some bytes → FirstFault bytes fault → A
+pub not_run : {A : Type 0} (words : List (List ℕ)) (old new : Edges) (text bytes : List ℕ) (fault : ImageFault) → IsReport words old new text → old.left ≡ Some bytes → FirstFault bytes fault → A
 not_run words old new text bytes fault h l f =
     let same : h.bytes ≡ bytes = gave_all old new h.bytes bytes h.was_read l in
     not_faulty bytes h.image fault (rw same at h.is_image) f

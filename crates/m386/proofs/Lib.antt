@@ -1,3 +1,4 @@
+pub mod Allowed
 pub mod Answers
 pub mod Numbers
 pub mod Options

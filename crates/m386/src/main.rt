@@ -1,6 +1,7 @@
 //! The program `m386`: it runs an image of a shared-memory machine of 80386 processors, and writes the report.
 #![tactic(auto)]
 
+mod laws;
 mod perform;
 mod run;
 mod status;
