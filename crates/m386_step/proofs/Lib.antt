@@ -12,3 +12,4 @@ pub mod Short
 pub mod Sources
 pub mod StepLists
 pub mod Told
+pub mod WholeSteps

@@ -1,5 +1,5 @@
 //! Laws of the step's definition.
-ghost use Rattle.std.specs.Prelude.{◌≡◌, ◌↔◌, ◌⊎◌, ℕ, ◌≤◌, [], ◌∷◌, ◌++◌, List, length, slice_get, Some, Ok, Err};
+ghost use Rattle.std.specs.Prelude.{◌≡◌, ◌↔◌, ◌⊎◌, ℕ, suc, ◌≤◌, [], ◌∷◌, ◌++◌, List, length, slice_get, Some, Ok, Err};
 ghost use Rattle.m386_base.specs.declared.ask.Ask.{Ask as AskRecord};
 ghost use Rattle.m386_base.specs.declared.ask.Cycle.{Cycle as CycleRecord};
 ghost use Rattle.m386_base.specs.declared.fault.Break.TheVariants as breaks;
@@ -12,6 +12,7 @@ ghost use Rattle.m386_base.specs.Replay.{Found, Lacks, replay};
 ghost use Rattle.m386_image.specs.declared.image.Image.{Image as ImageRecord};
 ghost use Rattle.m386_memory.specs.Contents.{Contents};
 ghost use Rattle.m386_memory.specs.declared.ended.ProcEnd.{ProcEnd};
+ghost use Rattle.m386_state.specs.declared.proc.Mode.TheVariants as modes;
 ghost use Rattle.m386_state.specs.declared.proc.Proc.{Proc as ProcRecord};
 ghost use Rattle.m386_decode.specs.declared.decoded.Decoded.{Decoded as DecodedRecord};
 ghost use Rattle.m386_step.specs.declared.fetch.Reader.{Reader as ReaderRecord};
@@ -21,6 +22,7 @@ ghost use Rattle.m386_step.specs.Judged.{AreJudged};
 ghost use Rattle.m386_step.specs.Once.{FetchesOnce, FetchesDiffer};
 ghost use Rattle.m386_step.specs.Run.{Run, BeginsWith, start_of};
 ghost use Rattle.m386_step.specs.Step.{step_phrase, Follow};
+ghost use Rattle.m386_step.specs.Steps.{Plan as PlanList, Steps, requested};
 
 /// A step asks for at most 192 cycles, whatever is answered.
 pub fn step_is_short()
@@ -78,4 +80,18 @@ pub fn run_laws()
     ensures no_run { (I : ImageRecord) (c : ℕ) (x : CycleRecord) (H : List CycleRecord) (E : List (ProcEnd ProcRecord)) → Run I c 0 (x ∷ H) E → ⊥ }
     ensures none { (v : BusView) (a : ℕ) → Performs (Done a) v v it (Ok a) }
     ensures some { (q : AskRecord) (k : ℕ → Phrase ℕ) (v : BusView) (a : ℕ) → Performs (Asks q k) v v it (Ok a) → ⊥ }
+{}
+
+/// What the definition of whole steps allows, and what it doesn't. A whole step of a processor that isn't in shutdown is one, and
+/// a proper front of a step isn't; in shutdown no step is made; and as many steps of the same cycles lead to one state. The
+/// function does nothing; its clauses are the laws.
+pub fn steps_laws()
+    ensures whole { (s s2 : ProcRecord) (ts : List AskRecord) → ¬ (s.mode ≡ modes.Shutdown) → Follow s ts ≡ Whole s2 []
+        → Steps 1 [] 0 s ts s2 }
+    ensures front { (q : PlanList) (j : ℕ) (s s2 : ProcRecord) (wanted : AskRecord) (ts : List AskRecord)
+        → Follow (requested q j s) ts ≡ Wants wanted → ¬ Steps 1 q j s ts s2 }
+    ensures shutdown { (k : ℕ) (q : PlanList) (j : ℕ) (s s2 : ProcRecord) (ts : List AskRecord) → s.mode ≡ modes.Shutdown
+        → ¬ Steps (suc k) q j s ts s2 }
+    ensures one_end { (k : ℕ) (q : PlanList) (j : ℕ) (s a b : ProcRecord) (ts : List AskRecord)
+        → Steps k q j s ts a → Steps k q j s ts b → a ≡ b }
 {}
