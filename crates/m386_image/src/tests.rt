@@ -376,6 +376,15 @@ fn each_number_has_its_place(rt: HostRuntime) -> Result<(), Fail> {
 }
 
 #[test]
+fn each_number_is_written_to_its_place(rt: HostRuntime) -> Result<(), Fail> {
+    let read = read_image(rt.alloc(), &APART)?;
+    let image = read_back(rt.alloc(), &read)?;
+    let written = write_image(rt.alloc(), &image)?;
+    assert_eq!(rt; written.as_slice(), APART.as_slice());
+    Ok(())
+}
+
+#[test]
 fn faults_have_numbers_and_names(rt: HostRuntime) {
     for (fault, number, name) in [
         (ImageFault::ShortHeader, 1, "ShortHeader"),
