@@ -155,6 +155,35 @@ fn each_role_fails_its_rule_alone(rt: HostRuntime) {
 }
 
 #[test]
+fn cycles_of_each_processor_are_judged_joined_or_not(rt: HostRuntime) {
+    let alloc = rt.alloc();
+    for (cpu, joined) in [(0, true), (1, false), (7, false), (7, true)] {
+        for (write, role, rule) in [
+            (false, Role::Lgdt, 6),
+            (true, Role::Operand, 7),
+            (false, Role::Flags, 8),
+            (true, Role::GdtAcc, 0),
+        ] {
+            let mut made = cycle(write, role, 0, 0x2004, 0xf, 0x4002);
+            made.cpu = cpu;
+            made.ask.joined = joined;
+            assert_eq!(rt; second(alloc, made), failure(rule), "{role:?} of {cpu}");
+        }
+    }
+}
+
+#[test]
+fn the_idt_may_be_written(rt: HostRuntime) {
+    let mut image = image(rt.alloc(), 0x2005, 3);
+    image.idt = TableAt {
+        base: 0x3000,
+        limit: 7,
+    };
+    let store = cycle(true, Role::Operand, 0, 0x3000, 0xf, 0);
+    assert_eq!(rt; plain_verdict(&image, &[store]), CLEAN);
+}
+
+#[test]
 fn nt_is_a_bit_of_the_second_byte(rt: HostRuntime) {
     // The part, the enables and the value of a read of flags, and the rule that fails.
     for (part, enables, value, rule) in [
