@@ -386,3 +386,31 @@ fn whole_report(rt: HostRuntime) -> Result<(), Fail> {
     );
     Ok(())
 }
+
+/// The line of a second processor, which took twelve steps.
+const SECOND_RUN: &str =
+    "p 1 shutdown steps 12 eip 0000100b efl 00000002 eax 9abcdef0 ecx 00000000 edx 00000000 ebx 00000000 esp 00000000 ebp 00000000 esi 00000000 edi 00000000 es 0010 cs 0008 ss 0010 ds 0010 fs 0010 gs 0010 ldt 0000 tr 0000 cr0 00000001 pending none\n";
+
+#[test]
+fn each_processor_has_its_line(rt: HostRuntime) -> Result<(), Fail> {
+    let alloc = rt.alloc();
+    let mut second = first_run();
+    second.after.mode = Mode::Shutdown;
+    second.after.regs[0] = 0x9abc_def0;
+    second.steps = 12;
+    let log = Record::new(alloc, Store::new(alloc, 16384)?);
+    let mut sink = MemSink::new(alloc, 512, 4096, Vec::new(alloc))?;
+    let ended = report(
+        &image_of(alloc, 16384, 2),
+        &log,
+        &[first_run(), second],
+        None,
+        &mut sink,
+    );
+    assert_eq!(rt; ended, Ok(()));
+    let text = format!(in alloc;
+        "m386 report 1\nmemory 00004000 cpus 2\n{FIRST_RUN}{SECOND_RUN}unjudged\n"
+    )?;
+    assert_eq!(rt; sink.bytes(), text.as_bytes());
+    Ok(())
+}
