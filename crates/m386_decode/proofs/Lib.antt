@@ -2,3 +2,4 @@ pub mod Concluding
 pub mod Exact
 pub mod Slices
 pub mod Some
+pub mod Wanting

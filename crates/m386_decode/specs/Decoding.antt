@@ -1,5 +1,5 @@
 -- What a decoder answers, by the bytes that its source gave.
-use Rattle.std.specs.Prelude.{ℕ, ◌≡◌, ◌<◌, ◌≤◌, List, [], ◌∷◌, ◌++◌, length, Some, None, Result, Ok, Err, ◌⊎◌}
+use Rattle.std.specs.Prelude.{ℕ, ◌≡◌, ◌<◌, ◌≤◌, List, [], ◌∷◌, ◌++◌, length, Result, Ok, Err, ◌⊎◌}
 use Rattle.m386_base.specs.declared.fault.Break.{Break}
 use Rattle.m386_base.specs.declared.fault.Break.TheVariants as breaks
 use Rattle.m386_base.specs.Exceptions.{undefined_opcode_of, general_protection_of}

@@ -1,5 +1,5 @@
 -- A search for the rows of an opcode may pass over those that end below it.
-use Rattle.std.proofs.Common.{◌≡◌, ℕ, zero, suc, ◌+◌, ◌-◌, ◌*◌, ◌/◌, ◌%◌, ◌<◌, ◌≤◌, inl, inr, List, [], ◌∷◌, length, get_or, take, drop, refl, ◌∙◌, ap, cond, Bool, true, false, ◌&&◌, not, ◌||◌, nat_le, Option, Some, None, arith}
+use Rattle.std.proofs.Common.{◌≡◌, ℕ, zero, suc, ◌+◌, ◌-◌, ◌*◌, ◌<◌, ◌≤◌, inl, inr, List, [], ◌∷◌, length, get_or, take, drop, refl, ◌∙◌, ap, cond, Bool, true, false, ◌&&◌, not, ◌||◌, nat_le, Option, Some, None, arith}
 use Rattle.std.specs.List.{find}
 use Rattle.std.proofs.lemmas.Bool.{lt-ltb, le-ltb, lt-leb, cases_lt}
 use Rattle.std.proofs.lemmas.List.{take_rest}
@@ -11,15 +11,15 @@ use Rattle.m386_opmap.specs.Readings.{tail_reading, selected_reading, modrm_read
 use Rattle.m386_opmap.specs.Rows.{row_at, row_of, covers_key, begins, rows_below, counts_from, rows_from}
 
 -- the count at a place
-pub counts_at : (opcode n i : ℕ) (rows : List Row) → i < n → get_or (counts_from opcode n rows) i 0 ≡ rows_below (8 * (opcode + 8 * i)) rows
+pub counts_at : (opcode n i : ℕ) (rows : List Row) → i < n → get_or (counts_from opcode n rows) i 0 ≡ rows_below (8 * (opcode + i)) rows
 unfolding counts_from
 counts_at opcode zero i rows h = absurd (omega arith)
 counts_at opcode (suc n) zero rows h =
-    let e : opcode ≡ opcode + 8 * 0 = omega arith in
+    let e : opcode ≡ opcode + 0 = omega arith in
     ap (λ x. rows_below (8 * x) rows) e
 counts_at opcode (suc n) (suc i) rows h =
-    let e : opcode + 8 + 8 * i ≡ opcode + 8 * suc i = omega arith in
-    counts_at (opcode + 8) n i rows (omega arith) ∙ ap (λ x. rows_below (8 * x) rows) e
+    let e : opcode + 1 + i ≡ opcode + suc i = omega arith in
+    counts_at (opcode + 1) n i rows (omega arith) ∙ ap (λ x. rows_below (8 * x) rows) e
 
 -- no more rows end below a key than there are
 pub below_bound : (key : ℕ) (rows : List Row) → rows_below key rows ≤ length rows
@@ -53,7 +53,7 @@ fails_middle false c = refl
 row_at_from : (opcode mid : ℕ) (rows : List Row) → row_at (8 * opcode + mid) (rows_from opcode rows) ≡ row_at (8 * opcode + mid) rows
 unfolding row_at rows_from
 row_at_from opcode mid rows =
-    find_from (covers_key (8 * opcode + mid)) (8 * (opcode / 8 * 8)) rows
+    find_from (covers_key (8 * opcode + mid)) (8 * opcode) rows
     (λ r low.
     let above : r.high < 8 * opcode + mid = omega arith in
     rw (lt-leb (8 * opcode + mid) r.high above) (fails_second (nat_le r.low (8 * opcode + mid))))
@@ -61,7 +61,7 @@ row_at_from opcode mid rows =
 row_of_from : (lock : Bool) (opcode : ℕ) (rows : List Row) → row_of lock opcode (rows_from opcode rows) ≡ row_of lock opcode rows
 unfolding row_of rows_from
 row_of_from lock opcode rows =
-    find_from (begins lock opcode) (8 * (opcode / 8 * 8)) rows
+    find_from (begins lock opcode) (8 * opcode) rows
     (λ r low.
     let above : r.high < 8 * opcode = omega arith in
     rw (lt-leb (8 * opcode) r.high above) (fails_middle (nat_le r.low (8 * opcode + 7)) (not lock || r.lock)))
@@ -97,17 +97,15 @@ unfolding second_reading
 second_first rows said at [] h = absurd (omega arith)
 second_first rows said at (b ∷ bytes) h = rw (take_rest (b ∷ bytes) 1) refl
 
--- the count of the eight opcodes of a byte, behind the first of the opcodes that are counted
-module _ (first byte at opcode : ℕ) (below : List ℕ) (rows : List Row) (whole : first % 8 ≡ 0) (small : byte < 256) (eight : at ≡ byte / 8)
-    (is : first + byte ≡ opcode) (counted : below ≡ counts_from first 32 rows) where
-  count_is : get_or below at 0 ≡ rows_below (8 * (opcode / 8 * 8)) rows
-  count_is =
-      let key : first + 8 * at ≡ opcode / 8 * 8 = omega arith in
-      ap (λ x. get_or x at 0) counted ∙ counts_at first 32 at rows (omega arith) ∙ ap (λ x. rows_below (8 * x) rows) key
+-- the count of the opcode of a byte, behind the first of the opcodes that are counted
+module _ (first byte opcode : ℕ) (below : List ℕ) (rows : List Row) (small : byte < 256)
+    (is : first + byte ≡ opcode) (counted : below ≡ counts_from first 256 rows) where
+  count_is : get_or below byte 0 ≡ rows_below (8 * opcode) rows
+  count_is = ap (λ x. get_or x byte 0) counted ∙ counts_at first 256 byte rows small ∙ ap (λ x. rows_below (8 * x) rows) is
 
-  pub count_within : get_or below at 0 ≤ length rows
-  count_within = omega (arith, count_is, below_bound (8 * (opcode / 8 * 8)) rows)
+  pub count_within : get_or below byte 0 ≤ length rows
+  count_within = omega (arith, count_is, below_bound (8 * opcode) rows)
 
-  pub passed_over : drop (get_or below at 0) rows ≡ rows_from opcode rows
+  pub passed_over : drop (get_or below byte 0) rows ≡ rows_from opcode rows
   unfolding rows_from
   passed_over = ap (λ n. drop n rows) count_is

@@ -1,6 +1,6 @@
 -- What holds of spellings and readings by the opcodes of the machine.
-use Rattle.std.proofs.Common.{◌≡◌, ℕ, ◌+◌, ◌<◌, ◌≤◌, List, [], ◌∷◌, ◌++◌, length, take, drop, refl, sym, ◌∙◌, ap, arith, subst, append_assoc, length-append}
-use Rattle.std.proofs.lemmas.List.{append-nil, take_at, take-append-drop, take-append-le, nil_from_length}
+use Rattle.std.proofs.Common.{◌≡◌, ℕ, ◌+◌, List, [], ◌∷◌, ◌++◌, length, take, refl, sym, ◌∙◌, ap, arith, subst, append_assoc, length-append}
+use Rattle.std.proofs.lemmas.List.{append-nil, take_at, nil_from_length}
 use Rattle.m386_opmap.specs.declared.op.Op.{Op}
 use Rattle.m386_opmap.specs.declared.outcome.Reading.{Reading}
 use Rattle.m386_opmap.specs.declared.outcome.Reading.TheVariants.{Spelled, More, Refused}
@@ -11,7 +11,7 @@ use Rattle.m386_opmap.proofs.Complete.{complete}
 use Rattle.m386_opmap.proofs.Lawful.{opcodes_lawful}
 use Rattle.m386_opmap.proofs.OneRow.{one_row}
 use Rattle.m386_opmap.proofs.ReadingOutcomes.{outcome}
-use Rattle.m386_opmap.proofs.Sound.{AllAreBytes, Outcome, Fronts, RefusedAt, front_bytes}
+use Rattle.m386_opmap.proofs.Sound.{AllAreBytes, Outcome, RefusedAt, front_bytes}
 
 -- what is spelled is read, whatever follows
 pub spelled_reads : (op : Op) (front rest : List ℕ) → Spells op front → reading_of (front ++ rest) ≡ Spelled op (length front)

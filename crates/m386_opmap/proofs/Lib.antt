@@ -10,4 +10,5 @@ pub mod Outcomes
 pub mod Prefixing
 pub mod ReadingOutcomes
 pub mod Sound
+pub mod Sure
 pub mod Table

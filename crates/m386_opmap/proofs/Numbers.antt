@@ -1,5 +1,5 @@
 -- How large the number of some bytes is.
-use Rattle.std.proofs.Common.{◌-◌, Bool, true, false, cond, ltb, ◌≡◌, ℕ, zero, suc, ◌+◌, ◌*◌, ◌^◌, ◌<◌, ◌≤◌, arith, refl, add-zero, add-suc, subst}
+use Rattle.std.proofs.Common.{◌-◌, Bool, true, false, cond, ltb, ◌≡◌, ℕ, zero, suc, ◌+◌, ◌^◌, ◌<◌, ◌≤◌, arith, refl, add-zero, add-suc, subst}
 use Rattle.std.proofs.Math.Nat.{pow-suc}
 use Rattle.m386_base.specs.declared.number.Width.TheVariants.{W32}
 use Rattle.m386_opmap.specs.Forms.{extended}

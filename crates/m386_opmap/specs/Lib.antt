@@ -5,3 +5,4 @@ pub mod Prefix
 pub mod Readings
 pub mod Rows
 pub mod Spelling
+pub mod Sure

@@ -1,5 +1,5 @@
 -- Which row of the opcode table covers a key.
-use Rattle.std.specs.Prelude.{ℕ, zero, suc, ◌+◌, ◌*◌, ◌/◌, ◌≤◌, Bool, true, ◌&&◌, ◌||◌, not, nat_le, nat_lt, List, [], ◌∷◌, drop, Option, if◌then◌else◌}
+use Rattle.std.specs.Prelude.{ℕ, zero, suc, ◌+◌, ◌*◌, ◌≤◌, Bool, true, ◌&&◌, ◌||◌, not, nat_le, nat_lt, List, [], ◌∷◌, drop, Option, if◌then◌else◌}
 use Rattle.std.specs.List.{find}
 use Rattle.m386_opmap.specs.declared.row.Row.{Row}
 
@@ -37,11 +37,11 @@ unfoldable pub rows_below : ℕ → List Row → ℕ
 rows_below key [] = 0
 rows_below key (r ∷ rs) = if nat_lt r.high key then suc (rows_below key rs) else 0
 
--- for so many eights of opcodes, from this one on, how many rows end below each
+-- for so many opcodes, from this one on, how many rows end below each
 unfoldable pub counts_from : ℕ → ℕ → List Row → List ℕ
 counts_from opcode zero rows = []
-counts_from opcode (suc n) rows = rows_below (8 * opcode) rows ∷ counts_from (opcode + 8) n rows
+counts_from opcode (suc n) rows = rows_below (8 * opcode) rows ∷ counts_from (opcode + 1) n rows
 
--- the rows that don't end below the eight opcodes of one
+-- the rows that don't end below an opcode
 unfoldable pub rows_from : ℕ → List Row → List Row
-rows_from opcode rows = drop (rows_below (8 * (opcode / 8 * 8)) rows) rows
+rows_from opcode rows = drop (rows_below (8 * opcode) rows) rows

@@ -1,5 +1,5 @@
 //! The operands of a row and the operation that they make.
-ghost use Rattle.std.specs.Prelude.{◌≡◌, ℕ, ◌+◌, ◌<◌, ◌≤◌, ◌^◌, ◌++◌, length, take, drop, option_to_list};
+ghost use Rattle.std.specs.Prelude.{◌≡◌, ℕ, ◌+◌, ◌<◌, ◌≤◌, ◌^◌, ◌∷◌, [], ◌++◌, length, take, drop, option_to_list};
 ghost use Rattle.arrayvec.specs.ArrayVec.{array_vec_len};
 ghost use Rattle.m386_base.specs.declared.number.Width.TheVariants.{W8, W16, W32};
 ghost use Rattle.m386_opmap.specs.Forms.{width_bytes, number, extended, displacement};
@@ -117,6 +117,15 @@ pub(crate) fn tail_len(row: &Row, narrow: bool) -> usize
     length_of(width, row.first) + length_of(width, row.second) + length_of(width, row.third)
 }
 
+/// The number that four bytes make, the lowest first.
+#[tactic(auto, unfolding(crate::specs::Forms::number))]
+fn doubleword(first: u8, second: u8, third: u8, fourth: u8) -> u32
+    ensures { result ≡ number (first ∷ second ∷ third ∷ fourth ∷ []) }
+{
+    let upper = u32::from(third) + 256 * u32::from(fourth);
+    u32::from(first) + 256 * (u32::from(second) + 256 * upper)
+}
+
 /// The number that bytes make, the lowest first.
 #[tactic(auto, unfolding(crate::specs::Forms::number))]
 fn number_of(bytes: &[u8]) -> u32
@@ -126,6 +135,7 @@ fn number_of(bytes: &[u8]) -> u32
 {
     match bytes {
         [] => 0,
+        [first, second, third, fourth] => doubleword(*first, *second, *third, *fourth),
         [first, rest @ ..] => u32::from(*first) + 256 * number_of(rest),
     }
 }
@@ -217,6 +227,7 @@ fn distance(width: Width, tail: &[u8]) -> u32
 }
 
 /// An operand's value, from the fields of the instruction, its width, and the bytes behind opcode and ModRM.
+#[inline(always)]
 fn argument(fields: &Fields, width: Width, tail: &[u8], operand: Operand) -> Option<Arg>
     ensures { result ≡ operand_value fields.now width tail.now operand }
 {
@@ -255,13 +266,18 @@ fn argument(fields: &Fields, width: Width, tail: &[u8], operand: Operand) -> Opt
     })
 }
 
-/// Appends an operand, if there is one.
-fn append(args: &mut ArrayVec<Arg, 3>, arg: Option<Arg>)
+/// Appends an operand's value, if there is one.
+// Inlined with `argument`: what is appended would be copied at each call. Most rows have one operand or two.
+#[inline(always)]
+fn append(args: &mut ArrayVec<Arg, 3>, fields: &Fields, width: Width, tail: &[u8], operand: Operand)
     requires { array_vec_len args.old < 3 }
-    ensures items { args.new.items ≡ args.old.items ++ option_to_list arg }
+    ensures items { args.new.items ≡ args.old.items ++ option_to_list (operand_value fields.now width tail.now operand) }
     ensures len { array_vec_len args.new ≤ array_vec_len args.old + 1 }
 {
-    if let Some(arg) = arg {
+    if operand == Operand::Absent {
+        return;
+    }
+    if let Some(arg) = argument(fields, width, tail, operand) {
         args.push(arg);
     }
 }
@@ -283,9 +299,9 @@ pub(crate) fn operation_of(row: &Row, fields: &Fields, tail: &[u8]) -> Op
 {
     let width = width(row.size, fields.prefixes.narrow);
     let mut args = ArrayVec::new();
-    append(&mut args, argument(fields, width, tail, row.first));
-    append(&mut args, argument(fields, width, tail, row.second));
-    append(&mut args, argument(fields, width, tail, row.third));
+    append(&mut args, fields, width, tail, row.first);
+    append(&mut args, fields, width, tail, row.second);
+    append(&mut args, fields, width, tail, row.third);
     Op {
         name: row.name,
         width,

@@ -7,6 +7,7 @@ ghost use Rattle.m386_opmap.specs.Forms.{displacement};
 ghost use Rattle.m386_opmap.specs.Prefix.{is_prefix, with_prefix, no_prefixes};
 ghost use Rattle.m386_opmap.specs.Readings.{tail_reading, displaced_reading, sib_reading, form_reading, modrm_reading, opcode_reading, second_reading, first_reading, prefixed_reading, reading_by, reading_of};
 ghost use Rattle.m386_opmap.specs.Spelling.{Spells, IsReadingOf};
+ghost use Rattle.m386_opmap.specs.Sure.{IsSure};
 
 use crate::fields::{Fields, Prefixes};
 use crate::lookup::Lookup;
@@ -47,12 +48,14 @@ fn beginning(rows: &[Row], lock: bool, opcode: u16) -> Option<Row>
 // Inlined, since an answer is large, and each call that isn't inlined copies it.
 #[inline(always)]
 #[tactic(auto, unfolding(crate::specs::Readings::tail_reading))]
-fn read_tail(row: &Row, fields: &Fields, at: usize, rest: &[u8]) -> Reading
+fn read_tail(row: &Row, fields: &Fields, at: usize, rest: &[u8], lack: &mut usize) -> Reading
     requires { at + length rest.now < 2 ^ 64 }
-    ensures { result ≡ tail_reading row.now fields.now at rest.now }
+    ensures exact { result ≡ tail_reading row.now fields.now at rest.now }
+    ensures sure { result ≡ Reading.More → IsSure (tail_reading row.now fields.now at) rest.now lack.new }
 {
     let len = operand::tail_len(row, fields.prefixes.narrow);
     if rest.len() < len {
+        *lack = len - rest.len();
         return Reading::More;
     }
     Reading::Spelled {
@@ -62,6 +65,8 @@ fn read_tail(row: &Row, fields: &Fields, at: usize, rest: &[u8]) -> Reading
 }
 
 /// Reads a displacement of so many bytes, of which the first stands at this place.
+// Inlined as `read_tail` is.
+#[inline(always)]
 #[tactic(auto, unfolding(crate::specs::Readings::displaced_reading))]
 fn read_displacement(
     row: &Row,
@@ -70,28 +75,42 @@ fn read_displacement(
     len: usize,
     at: usize,
     rest: &[u8],
+    lack: &mut usize,
 ) -> Reading
     requires few { len ≤ 4 }
     requires room { at + length rest.now < 2 ^ 64 }
-    ensures { result ≡ displaced_reading row.now fields.now address len at rest.now }
+    ensures exact { result ≡ displaced_reading row.now fields.now address len at rest.now }
+    ensures sure { result ≡ Reading.More → IsSure (displaced_reading row.now fields.now address len at) rest.now lack.new }
 {
     if rest.len() < len {
+        *lack = len - rest.len() + operand::tail_len(row, fields.prefixes.narrow);
         return Reading::More;
     }
     let mut address = address;
     address.disp = operand::displacement_of(&rest[..len]);
     let mut fields = *fields;
     fields.place = Some(Arg::Mem(address));
-    read_tail(row, &fields, at + len, &rest[len..])
+    read_tail(row, &fields, at + len, &rest[len..], lack)
 }
 
 /// Reads a SIB byte at this place.
+// Inlined as `read_tail` is.
+#[inline(always)]
 #[tactic(auto, unfolding(crate::specs::Readings::sib_reading))]
-fn read_sib(row: &Row, fields: &Fields, mode: u8, at: usize, rest: &[u8]) -> Reading
+fn read_sib(
+    row: &Row,
+    fields: &Fields,
+    mode: u8,
+    at: usize,
+    rest: &[u8],
+    lack: &mut usize,
+) -> Reading
     requires { at + length rest.now < 2 ^ 64 }
-    ensures { result ≡ sib_reading row.now fields.now mode at rest.now }
+    ensures exact { result ≡ sib_reading row.now fields.now mode at rest.now }
+    ensures sure { result ≡ Reading.More → IsSure (sib_reading row.now fields.now mode at) rest.now lack.new }
 {
     let [sib, rest @ ..] = rest else {
+        *lack = 1;
         return Reading::More;
     };
     let address = Addr {
@@ -102,24 +121,34 @@ fn read_sib(row: &Row, fields: &Fields, mode: u8, at: usize, rest: &[u8]) -> Rea
         disp: 0,
     };
     let len = form::displacement_len(mode, sib % 8);
-    read_displacement(row, fields, address, len, at + 1, rest)
+    read_displacement(row, fields, address, len, at + 1, rest, lack)
 }
 
 /// Reads what a ModRM byte names. The byte behind it stands at this place.
+// Inlined as `read_tail` is.
+#[inline(always)]
 #[tactic(auto, unfolding(crate::specs::Readings::form_reading))]
-fn read_form(row: &Row, fields: &Fields, modrm: u8, at: usize, rest: &[u8]) -> Reading
+fn read_form(
+    row: &Row,
+    fields: &Fields,
+    modrm: u8,
+    at: usize,
+    rest: &[u8],
+    lack: &mut usize,
+) -> Reading
     requires { at + length rest.now < 2 ^ 64 }
-    ensures { result ≡ form_reading row.now fields.now modrm at rest.now }
+    ensures exact { result ≡ form_reading row.now fields.now modrm at rest.now }
+    ensures sure { result ≡ Reading.More → IsSure (form_reading row.now fields.now modrm at) rest.now lack.new }
 {
     let mode = modrm / 64;
     let register = modrm % 8;
     if mode == 3 {
         let mut fields = *fields;
         fields.place = Some(Arg::Reg(register));
-        return read_tail(row, &fields, at, rest);
+        return read_tail(row, &fields, at, rest, lack);
     }
     if register == 4 {
-        return read_sib(row, fields, mode, at, rest);
+        return read_sib(row, fields, mode, at, rest, lack);
     }
     let address = Addr {
         seg: fields.prefixes.seg,
@@ -129,17 +158,28 @@ fn read_form(row: &Row, fields: &Fields, modrm: u8, at: usize, rest: &[u8]) -> R
         disp: 0,
     };
     let len = form::displacement_len(mode, register);
-    read_displacement(row, fields, address, len, at, rest)
+    read_displacement(row, fields, address, len, at, rest, lack)
 }
 
 /// Reads a ModRM byte at this place.
+// Inlined as `read_tail` is.
+#[inline(always)]
 #[tactic(auto, unfolding(crate::specs::Readings::modrm_reading))]
-fn read_modrm(rows: &[Row], prefixes: &Prefixes, opcode: u16, at: usize, rest: &[u8]) -> Reading
+fn read_modrm(
+    rows: &[Row],
+    prefixes: &Prefixes,
+    opcode: u16,
+    at: usize,
+    rest: &[u8],
+    lack: &mut usize,
+) -> Reading
     requires opcode { opcode < 4096 }
     requires room { at + length rest.now < 2 ^ 64 }
-    ensures { result ≡ modrm_reading rows.now prefixes.now opcode at rest.now }
+    ensures exact { result ≡ modrm_reading rows.now prefixes.now opcode at rest.now }
+    ensures sure { result ≡ Reading.More → IsSure (modrm_reading rows.now prefixes.now opcode at) rest.now lack.new }
 {
     let [modrm, rest @ ..] = rest else {
+        *lack = 1;
         return Reading::More;
     };
     let middle = modrm / 8 % 8;
@@ -155,23 +195,31 @@ fn read_modrm(rows: &[Row], prefixes: &Prefixes, opcode: u16, at: usize, rest: &
         middle,
         place: None,
     };
-    read_form(&row, &fields, *modrm, at + 1, rest)
+    read_form(&row, &fields, *modrm, at + 1, rest, lack)
 }
 
 /// Reads what stands behind an opcode, whose last byte stands at this place.
 // Inlined as `read_tail` is.
 #[inline(always)]
 #[tactic(auto, unfolding(crate::specs::Readings::opcode_reading))]
-fn read_opcode(rows: &[Row], prefixes: &Prefixes, opcode: u16, at: usize, rest: &[u8]) -> Reading
+fn read_opcode(
+    rows: &[Row],
+    prefixes: &Prefixes,
+    opcode: u16,
+    at: usize,
+    rest: &[u8],
+    lack: &mut usize,
+) -> Reading
     requires opcode { opcode < 4096 }
     requires room { at + length rest.now + 1 < 2 ^ 64 }
-    ensures { result ≡ opcode_reading rows.now prefixes.now opcode at rest.now }
+    ensures exact { result ≡ opcode_reading rows.now prefixes.now opcode at rest.now }
+    ensures sure { result ≡ Reading.More → IsSure (opcode_reading rows.now prefixes.now opcode at) rest.now lack.new }
 {
     let Some(row) = beginning(rows, prefixes.lock, opcode) else {
         return Reading::Refused { at };
     };
     if operand::is_with_modrm(&row) {
-        return read_modrm(rows, prefixes, opcode, at + 1, rest);
+        return read_modrm(rows, prefixes, opcode, at + 1, rest, lack);
     }
     let fields = Fields {
         prefixes: *prefixes,
@@ -179,60 +227,95 @@ fn read_opcode(rows: &[Row], prefixes: &Prefixes, opcode: u16, at: usize, rest: 
         middle: 0,
         place: None,
     };
-    read_tail(&row, &fields, at + 1, rest)
+    read_tail(&row, &fields, at + 1, rest, lack)
 }
 
 /// Reads the second byte of an opcode, at this place.
 #[tactic(auto, unfolding(crate::specs::Readings::second_reading))]
-fn read_second(table: &Lookup, prefixes: &Prefixes, at: usize, rest: &[u8]) -> Reading
+fn read_second(
+    table: &Lookup,
+    prefixes: &Prefixes,
+    at: usize,
+    rest: &[u8],
+    lack: &mut usize,
+) -> Reading
     requires { at + length rest.now < 2 ^ 64 }
-    ensures { result ≡ second_reading table.now.rows.now prefixes.now at rest.now }
+    ensures exact { result ≡ second_reading table.now.rows.now prefixes.now at rest.now }
+    ensures sure { result ≡ Reading.More → IsSure (second_reading table.now.rows.now prefixes.now at) rest.now lack.new }
 {
     let [byte, rest @ ..] = rest else {
+        *lack = 1;
         return Reading::More;
     };
     let rows = table.from_second_byte(*byte);
-    read_opcode(rows, prefixes, 0xf00 + u16::from(*byte), at, rest)
+    read_opcode(rows, prefixes, 0xf00 + u16::from(*byte), at, rest, lack)
 }
 
 /// Reads an opcode whose first byte stands at this place.
 #[tactic(auto, unfolding(crate::specs::Readings::first_reading))]
-fn read_first(table: &Lookup, prefixes: &Prefixes, byte: u8, at: usize, rest: &[u8]) -> Reading
+fn read_first(
+    table: &Lookup,
+    prefixes: &Prefixes,
+    byte: u8,
+    at: usize,
+    rest: &[u8],
+    lack: &mut usize,
+) -> Reading
     requires { at + length rest.now + 1 < 2 ^ 64 }
-    ensures { result ≡ first_reading table.now.rows.now prefixes.now byte at rest.now }
+    ensures exact { result ≡ first_reading table.now.rows.now prefixes.now byte at rest.now }
+    ensures sure { result ≡ Reading.More → IsSure (first_reading table.now.rows.now prefixes.now byte at) rest.now lack.new }
 {
     if byte == 0x0f {
-        read_second(table, prefixes, at + 1, rest)
+        read_second(table, prefixes, at + 1, rest, lack)
     } else {
-        read_opcode(table.from_byte(byte), prefixes, u16::from(byte), at, rest)
+        read_opcode(
+            table.from_byte(byte),
+            prefixes,
+            u16::from(byte),
+            at,
+            rest,
+            lack,
+        )
     }
 }
 
 /// What bytes read as by a table of rows.
-#[tactic(auto, using(crate::proofs::Find::prefixed_steps), unfolding(crate::specs::Readings::reading_by))]
-fn read(table: &Lookup, bytes: &[u8]) -> Reading
-    ensures { result ≡ reading_by table.now.rows.now bytes.now }
+#[tactic(auto, using(crate::proofs::Find::prefixed_steps, crate::proofs::Sure::prefixed_goes), unfolding(crate::specs::Readings::reading_by))]
+fn read(table: &Lookup, bytes: &[u8], lack: &mut usize) -> Reading
+    ensures exact { result ≡ reading_by table.now.rows.now bytes.now }
+    ensures sure { result ≡ Reading.More → IsSure (reading_by table.now.rows.now) bytes.now lack.new }
 {
     let mut prefixes = Prefixes::none();
     for (at, byte) in bytes.iter().enumerate() {
         match prefixes.with(*byte) {
             Some(said) => prefixes = said,
-            None => return read_first(table, &prefixes, *byte, at, &bytes[at + 1..]),
+            None => return read_first(table, &prefixes, *byte, at, &bytes[at + 1..], lack),
         }
     }
+    *lack = 1;
     Reading::More
 }
 
 /// What bytes read as by the opcodes of the machine.
-fn read_opcodes(bytes: &[u8]) -> Reading
-    ensures { result ≡ reading_of bytes.now }
+fn read_opcodes(bytes: &[u8], lack: &mut usize) -> Reading
+    ensures exact { result ≡ reading_of bytes.now }
+    ensures sure { result ≡ Reading.More → IsSure reading_of bytes.now lack.new }
 {
     let table = Lookup {
         rows: &OPCODE_ROWS,
         below: &ROWS_BELOW,
         escaped_below: &ESCAPED_ROWS_BELOW,
     };
-    read(&table, bytes)
+    read(&table, bytes, lack)
+}
+
+/// What bytes read as, and for `More` how many more bytes are surely wanted: with fewer behind them they read as `More` too.
+pub fn reading_sure(bytes: &[u8], lack: &mut usize) -> Reading
+    ensures exact { result ≡ reading_of bytes.now }
+    ensures says { IsReadingOf bytes.now result }
+    ensures sure { result ≡ Reading.More → IsSure reading_of bytes.now lack.new }
+{
+    read_opcodes(bytes, lack)
 }
 
 /// What bytes read as: the operation that they begin with and the number of its bytes; `More` where they begin a spelling
@@ -247,7 +330,8 @@ pub fn reading(bytes: &[u8]) -> Reading
     // What is spelled is read, whatever follows.
     ensures spelled { (op : Op) (front rest : List ℕ) → bytes.now ≡ front ++ rest → Spells op front → result ≡ Reading.Spelled op (length front) }
 {
-    read_opcodes(bytes)
+    let mut lack = 0;
+    read_opcodes(bytes, &mut lack)
 }
 
 /// No bytes spell two operations.

@@ -74,13 +74,10 @@ macro_rules! rows {
     };
 }
 
-/// For each of some counts, a number and the counts that stand before it.
-macro_rules! sums {
-    ([$($sums:expr),*] $sum:expr;) => {
-        [$($sums),*]
-    };
-    ([$($sums:expr),*] $sum:expr; $count:literal $($rest:literal)*) => {
-        sums!([$($sums,)* $sum] $sum + $count; $($rest)*)
+/// Counts, without a comma between them.
+macro_rules! counts {
+    ($($count:literal)*) => {
+        [$($count),*]
     };
 }
 
@@ -415,23 +412,45 @@ pub const OPCODE_ROWS: [Row; 327] = rows![
     0x0fbf Movsx16 Either (G E);
 ];
 
-/// For each eight opcodes of one byte, how many rows end below them. Written are the rows that end in each eight, a line
-/// for 64 opcodes.
-pub const ROWS_BELOW: [u16; 32] = sums!([] 0;
-    8 7 8 8 6 6 6 6
-    1 1 1 1 4 4 8 8
-    28 9 2 8 8 8 1 1
-    20 7 29 1 8 8 16 15
-);
+/// For each opcode of one byte, how many rows end below it, a line for 16 opcodes.
+pub const ROWS_BELOW: [u16; 256] = counts![
+    0 1 2 3 4 5 6 7 8 9 10 11 12 13 14 15
+    15 16 17 18 19 20 21 22 23 24 25 26 27 28 29 30
+    31 32 33 34 35 36 37 37 37 38 39 40 41 42 43 43
+    43 44 45 46 47 48 49 49 49 50 51 52 53 54 55 55
+    55 55 55 55 55 55 55 55 56 56 56 56 56 56 56 56
+    57 57 57 57 57 57 57 57 58 58 58 58 58 58 58 58
+    59 60 61 62 63 63 63 63 63 64 65 66 67 67 67 67
+    67 68 69 70 71 72 73 74 75 76 77 78 79 80 81 82
+    83 91 99 99 107 108 109 110 111 112 113 114 115 116 117 119
+    120 121 121 121 121 121 121 121 122 123 124 125 126 127 128 129
+    130 131 132 133 134 135 136 137 138 139 140 141 142 143 144 145
+    146 146 146 146 146 146 146 146 147 147 147 147 147 147 147 147
+    148 155 162 163 164 165 166 167 168 168 169 170 171 172 173 174
+    175 182 189 196 203 203 203 203 204 204 204 204 204 204 204 204
+    205 206 207 208 209 210 211 212 213 214 215 216 217 218 219 220
+    221 221 221 221 221 222 223 230 237 238 239 240 241 242 243 245
+];
 
-/// For each eight opcodes 0Fh xx, how many rows end below them. Written are the rows of one byte, and those that end in each
-/// eight.
-pub const ESCAPED_ROWS_BELOW: [u16; 32] = sums!([] 252;
-    15 0 0 0 2 0 0 0
-    0 0 0 0 0 0 0 0
-    8 8 8 8 5 6 6 9
-    0 0 0 0 0 0 0 0
-);
+/// For each opcode 0Fh xx, how many rows end below it, a line for 16 opcodes.
+pub const ESCAPED_ROWS_BELOW: [u16; 256] = counts![
+    252 258 264 265 266 266 266 267 267 267 267 267 267 267 267 267
+    267 267 267 267 267 267 267 267 267 267 267 267 267 267 267 267
+    267 268 268 269 269 269 269 269 269 269 269 269 269 269 269 269
+    269 269 269 269 269 269 269 269 269 269 269 269 269 269 269 269
+    269 269 269 269 269 269 269 269 269 269 269 269 269 269 269 269
+    269 269 269 269 269 269 269 269 269 269 269 269 269 269 269 269
+    269 269 269 269 269 269 269 269 269 269 269 269 269 269 269 269
+    269 269 269 269 269 269 269 269 269 269 269 269 269 269 269 269
+    269 270 271 272 273 274 275 276 277 278 279 280 281 282 283 284
+    285 286 287 288 289 290 291 292 293 294 295 296 297 298 299 300
+    301 302 303 303 304 305 306 306 306 307 308 308 309 310 311 311
+    312 312 312 313 314 315 316 317 318 318 318 322 323 324 325 326
+    327 327 327 327 327 327 327 327 327 327 327 327 327 327 327 327
+    327 327 327 327 327 327 327 327 327 327 327 327 327 327 327 327
+    327 327 327 327 327 327 327 327 327 327 327 327 327 327 327 327
+    327 327 327 327 327 327 327 327 327 327 327 327 327 327 327 327
+];
 
 /// The table is the one that the manual's opcode map gives.
 pub fn rows_are_the_opcodes()
@@ -441,8 +460,8 @@ pub fn rows_are_the_opcodes()
 /// The counts are those of the table.
 #[tactic(auto, unfolding(crate::specs::Rows::counts_from, crate::specs::Rows::rows_below))]
 pub fn counts_are_of_the_rows()
-    ensures one_byte { ROWS_BELOW ≡ counts_from 0 32 opcode_rows }
-    ensures escaped { ESCAPED_ROWS_BELOW ≡ counts_from 0xf00 32 opcode_rows }
+    ensures one_byte { ROWS_BELOW ≡ counts_from 0 256 opcode_rows }
+    ensures escaped { ESCAPED_ROWS_BELOW ≡ counts_from 0xf00 256 opcode_rows }
 {}
 
 /// The rows rise, and each ends below the begin of the next.

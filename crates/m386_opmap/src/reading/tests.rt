@@ -2,7 +2,7 @@
 
 mod cases;
 
-use super::reading;
+use super::{reading, reading_sure};
 use crate::op::{Addr, Arg, Op, Rep};
 use crate::outcome::Reading;
 use std::alloc::{AllocError, Global};
@@ -113,6 +113,22 @@ fn bytes_are_refused_at_the_first_that_spells_nothing(rt: HostRuntime) -> Result
             Reading::Refused { at },
             "{line}"
         );
+    }
+    Ok(())
+}
+
+#[test]
+fn bytes_that_are_surely_wanted_are_counted(rt: HostRuntime) -> Result<(), Fail> {
+    for line in cases::WANTING.lines() {
+        let (bytes, count) = line.split_once("& ").ok_or("no count")?;
+        let bytes = bytes_of(rt.alloc(), bytes)?;
+        let mut lack = 0;
+        assert_eq!(rt;
+            reading_sure(bytes.as_slice(), &mut lack),
+            Reading::More,
+            "{line}"
+        );
+        assert_eq!(rt; lack, count.parse::<usize>()?, "{line}");
     }
     Ok(())
 }

@@ -10,4 +10,4 @@ invariant_of-table c = record { counted = refl; escaped_counted = refl }
 
 pub returns : goal.returns
 unfolding reading_of
-returns c = c.read.ensures
+returns c = record { exact = c.read.ensures.exact; sure = c.read.ensures.sure }

@@ -12,7 +12,7 @@ pub returns-clause-says : goal.returns-clause-says
 returns-clause-says c =
     let P : Reading → Type 0 = λ x. IsReadingOf c.args.bytes.now x in
     let are : AllAreBytes c.args.bytes.now = All-from_get_or (λ b. b < 256) c.args.bytes.now 0 (λ i l. omega (arith, c.type_inv.bytes i)) in
-    subst P (sym c.read_opcodes.ensures) (reading_is c.args.bytes.now are)
+    subst P (sym c.read_opcodes.ensures.exact) (reading_is c.args.bytes.now are)
 
 pub returns-clause-spelled : goal.returns-clause-spelled
-returns-clause-spelled c op front rest parts s = c.read_opcodes.ensures ∙ ap reading_of parts ∙ spelled_reads op front rest s
+returns-clause-spelled c op front rest parts s = c.read_opcodes.ensures.exact ∙ ap reading_of parts ∙ spelled_reads op front rest s

@@ -1,7 +1,7 @@
 //! Bytes and what they read as: one spelling of each row of the opcode table as an assembler makes it, further forms and
 //! prefixes, and refusals. A line has the bytes, and behind `=` the operation: its name, width and operands, and `lock` or
-//! the repetition where it has one. Behind `@` a line has the place at which the bytes are refused. All numbers but those
-//! of registers, widths and places are hexadecimal.
+//! the repetition where it has one. Behind `@` a line has the place at which the bytes are refused, and behind `&` how
+//! many more are surely wanted. All numbers but those of registers, widths, places and counts are hexadecimal.
 
 /// One spelling of each row.
 pub const ROWS: &str = "\
@@ -475,3 +475,41 @@ f0 f0 c3 @ 2
 66 f0 8b @ 2
 f0 66 c6 @ 2
 ";
+
+/// Fronts of spellings.
+pub const WANTING: &str = "\
+& 1
+66 & 1
+f0 & 1
+0f & 1
+0f b6 & 1
+8b & 1
+8b 04 & 1
+8b 44 & 1
+8b 45 & 1
+8b 05 & 4
+8b 85 00 & 3
+8b 04 25 & 4
+8b 44 24 & 1
+8b 84 24 00 00 & 2
+80 45 & 2
+83 05 00 & 4
+c7 45 & 5
+c7 05 & 8
+c7 05 00 00 00 00 & 4
+66 c7 05 & 6
+66 81 c0 & 2
+81 c0 00 & 3
+6a & 1
+66 68 & 2
+b8 & 4
+66 b8 & 2
+a1 00 & 3
+66 a1 & 4
+74 & 1
+0f 84 & 4
+66 0f 84 & 2
+c2 & 2
+9a & 6
+66 9a & 4
+0f a4 05 & 5";
