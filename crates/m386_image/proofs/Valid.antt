@@ -9,7 +9,7 @@ use Rattle.std.proofs.lemmas.Nat.{from_le_bytes-to_le_bytes_2, from_le_bytes-to_
 use Rattle.m386_image.specs.declared.image.Image.{Image}
 use Rattle.m386_image.specs.declared.image.Planned.{Planned}
 use Rattle.m386_image.specs.declared.image.TableAt.{TableAt}
-use Rattle.m386_image.specs.Format.{AreBytes, u16_at, u32_at, u16_bytes, u32_bytes, cpus_of, starts_of, start_word, entry_at, entries, entry_text, plan_count, plan_in, plan_end, section_text, HasText, ArePlaced, IsMemorySize, IsCpuCount, ImageOf, IsValid, head_text, tables_text, counts_text, image_text}
+use Rattle.m386_image.specs.Format.{AreBytes, u16_at, u32_at, u16_bytes, u32_bytes, cpus_of, starts_of, start_word, entry_at, entries, entry_text, plan_count, plan_in, plan_end, section_text, HasText, ArePlaced, IsMemorySize, IsCpuCount, ImageOf, IsValid, HasImageText, head_text, tables_text, counts_text, image_text}
 use Rattle.m386_image.proofs.Plans.{length-entries, StepsFit, entries_fit, length-plan_text, entries-plan_text}
 use Rattle.m386_image.proofs.Numbers.{AreBytes-drop, u16_at_lt, u32_at_lt, u32_at-drop, u32_at-bytes, length-u32_bytes}
 
@@ -41,6 +41,9 @@ valid_steps image v = subst StepsFit (sym v.1.plan) (entries_fit (plan_count v.0
 pub valid_counts : (image : Image) → IsValid image → (length image.plan < 2 ^ 32) × (length image.sections < 2 ^ 32)
 valid_counts image v =
     (omega (arith, planned_count v.0 image v.1, u32_at_lt 24 v.0 v.1.are_bytes), omega (arith, v.1.sections.sections.count, u32_at_lt 28 v.0 v.1.are_bytes))
+
+pub valid_has_text : (image : Image) → IsValid image → HasImageText image
+valid_has_text image v = record { planned = (valid_counts image v).0; counted = (valid_counts image v).1; sections = valid_sections image v }
 
 -- the starts of the bytes, one by one
 get_or-starts_of : (bytes : List ℕ) (k : ℕ) → k < 8 → get_or (starts_of bytes) k 0 ≡ start_word bytes k

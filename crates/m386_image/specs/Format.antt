@@ -192,3 +192,10 @@ entry_text e = u32_bytes e.step ++ (e.cpu ∷ e.vector ∷ 0 ∷ 0 ∷ [])
 -- Own choice: docs/DECISIONS.md, "The image file"
 unfoldable pub image_text : Image → List ℕ
 image_text image = head_text image ++ tables_text image ++ counts_text image ++ flat_map u32_bytes image.starts ++ flat_map entry_text image.plan ++ flat_map section_text image.sections
+
+-- The counts of plan entries and of sections have four bytes, and so have the two numbers of each section. An image like that has
+-- a text, whether it is valid or not.
+pub record HasImageText (image : Image) : Type 0 where
+  pub planned : length image.plan < 2 ^ 32
+  pub counted : length image.sections < 2 ^ 32
+  pub sections : AllByRecursion HasText image.sections

@@ -1,8 +1,9 @@
 use crate::fault::{ImageFault, ReadStop};
-use crate::image::{Planned, TableAt};
+use crate::image::{Image, Planned, TableAt};
 use crate::laws::{one_image, read_back};
 use crate::reading::read_image;
-use crate::writing::write_image;
+use crate::writing::{text_of, write_image};
+use m386_base::list::List;
 use std::alloc::{AllocError, Global};
 use std::test::Fail;
 
@@ -381,6 +382,27 @@ fn each_number_is_written_to_its_place(rt: HostRuntime) -> Result<(), Fail> {
     let image = read_back(rt.alloc(), &read)?;
     let written = write_image(rt.alloc(), &image)?;
     assert_eq!(rt; written.as_slice(), APART.as_slice());
+    Ok(())
+}
+
+#[test]
+fn an_image_that_isnt_valid_has_a_text(rt: HostRuntime) -> Result<(), Fail> {
+    let at = TableAt { base: 0, limit: 0 };
+    let image = Image {
+        memory: 16_384,
+        cpus: 1,
+        flags: 1,
+        gdt: at,
+        idt: at,
+        starts: [0x1000, 0, 0, 0, 0, 0, 0, 0],
+        plan: List::new(rt.alloc()),
+        sections: List::new(rt.alloc()),
+    };
+    let text = text_of(rt.alloc(), &image)?;
+    let wanted = edited(rt.alloc(), 64, &[(7, 1), (28, 0)], &[])?;
+    assert_eq!(rt; text.as_slice(), wanted.as_slice());
+    let stop = read_image(rt.alloc(), &text).err();
+    assert_eq!(rt; stop, Some(ReadStop::Bad(ImageFault::Flags)));
     Ok(())
 }
 

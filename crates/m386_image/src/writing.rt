@@ -1,6 +1,6 @@
 //! An image as bytes.
 ghost use Rattle.std.specs.Prelude.{◌≡◌, ◌++◌, ◌^◌, ◌<◌, length, OnOk, IfOk};
-ghost use Rattle.m386_image.specs.Format.{HasText, u16_bytes, u32_bytes, head_text, tables_text, counts_text, entry_text, section_text, image_text, IsValid, ImageOf};
+ghost use Rattle.m386_image.specs.Format.{HasText, u16_bytes, u32_bytes, head_text, tables_text, counts_text, entry_text, section_text, image_text, HasImageText, IsValid, ImageOf};
 ghost use Rattle.std.specs.List.{flat_map, AllByRecursion};
 
 use crate::image::{Image, Planned, Section};
@@ -117,10 +117,12 @@ fn put_sections(out: &mut Vec<u8>, sections: &[Section]) -> Result<(), NoMemory>
     Ok(())
 }
 
-/// The bytes of an image, each ignored one 0.
+/// The bytes of an image that need not be valid, with 0 in each word and byte that a reader ignores. Only its counts of plan entries
+/// and of sections, and the numbers of each section, have to fit their places. A reader tells the first fault of an image that isn't
+/// valid, such as a flag that is set. The work takes time in proportion to the bytes.
 #[tactic(auto, using(std::proofs::lemmas::List::append_assoc), unfolding(crate::specs::Format::image_text))]
-fn text_of(alloc: Global, image: &Image) -> Result<Vec<u8>, NoMemory>
-    requires { IsValid image.now }
+pub fn text_of(alloc: Global, image: &Image) -> Result<Vec<u8>, NoMemory>
+    requires { HasImageText image.now }
     ensures { IfOk result (λ v. v.items ≡ image_text image.now) }
 {
     let mut out = Vec::new(alloc);
