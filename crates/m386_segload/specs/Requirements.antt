@@ -1,7 +1,7 @@
 -- What each rule of a table requires of a descriptor that a selector names.
 use Rattle.std.specs.Prelude.{ℕ, Bool, true, false, not, ◌&&◌, ◌||◌, ◌==◌, ◌+◌, ◌*◌, nat_le, if◌then◌else◌, is_some}
 use Rattle.m386_base.specs.declared.desc.Desc.{Desc}
-use Rattle.m386_checks.specs.Descriptor.{given, is_reached_from, may_be_data_from, runs_at, has_level, holds_offset, is_ldt}
+use Rattle.m386_checks.specs.Descriptor.{given, is_reached_from, may_be_data_from, runs_at, has_level, holds_offset, is_ldt, is_marked}
 use Rattle.m386_desc.specs.declared.kind.Kind.{Kind}
 use Rattle.m386_desc.specs.declared.kind.Kind.TheVariants as kinds
 use Rattle.m386_desc.specs.Access.{dpl_of, is_present, is_code_32, is_conforming, is_readable, is_writable, kind_of}
@@ -77,6 +77,7 @@ is_met requirements.Writable c = given c.desc is_writable
 is_met requirements.Readable c = given c.desc is_readable
 is_met requirements.Code c = given c.desc is_code_32
 is_met requirements.LocalTable c = given c.desc is_ldt
+is_met requirements.AvailableTss c = given c.desc (is_marked false)
 is_met requirements.EventGate c = given c.desc is_event_gate
 is_met requirements.WithRights c = given c.desc shows_rights
 is_met requirements.WithLimit c = given c.desc shows_limit

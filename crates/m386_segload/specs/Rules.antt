@@ -42,6 +42,15 @@ local_table_rules =
     ∷ rule requirements.LocalTable GeneralProtection true
     ∷ rule requirements.Present SegmentNotPresent true ∷ []
 
+-- A load of TR.
+-- Source: Intel 80386 PRM 7.3, 17.2.2.11, LTR
+abbrev pub task_rules : List Rule
+task_rules =
+    rule requirements.NotNull GeneralProtection false
+    ∷ rule requirements.InTable GeneralProtection true
+    ∷ rule requirements.AvailableTss GeneralProtection true
+    ∷ rule requirements.Present SegmentNotPresent true ∷ []
+
 -- The TSS of a stack change to the level: TR may be used, and holds ESP and SS of that level.
 -- Source: Intel 80386 PRM 6.3.4.1, 7.1
 abbrev pub task_stack_rules : List Rule

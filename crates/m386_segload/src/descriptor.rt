@@ -57,9 +57,9 @@ pub fn read_descriptor<B: Bus>(bus: &mut B, role: Role, address: u32) -> Result<
     Ok(desc_of(lo, hi))
 }
 
-/// The group of one byte.
+/// The group of one byte in memory.
 #[tactic(auto, using(crate::proofs::Bytes::one_byte))]
-fn byte_group(address: u32) -> Piece
+pub fn byte_group(address: u32) -> Piece
     ensures exact { result ≡ byte_piece address }
     ensures some { 0 < result.enables }
     ensures group { result.enables < 16 }

@@ -8,7 +8,7 @@ use crate::rules::{Candidate, Requirement, Rule};
 use m386_base::desc::Desc;
 use m386_base::fault::Fault;
 use m386_checks::descriptor::{
-    code, inside, is_there, of_level, reached, readable, runs, table, usable, writable,
+    code, inside, is_there, marked, of_level, reached, readable, runs, table, usable, writable,
 };
 use m386_desc::access::{dpl, kind};
 use m386_desc::kind::Kind;
@@ -120,6 +120,7 @@ pub fn is_met(requirement: Requirement, c: &Candidate) -> bool
         Requirement::Readable => readable(c.desc),
         Requirement::Code => code(c.desc),
         Requirement::LocalTable => table(c.desc),
+        Requirement::AvailableTss => marked(c.desc, false),
         Requirement::EventGate => event_gate(c.desc),
         Requirement::WithRights => with_rights(c.desc),
         Requirement::WithLimit => with_limit(c.desc),

@@ -1,6 +1,6 @@
 //! Rules for a descriptor that a selector names, as tables in order, and what a table is read over.
 ghost use Rattle.std.specs.Prelude.{◌≡◌};
-ghost use Rattle.m386_segload.specs.Rules.{stack_rules, data_rules, local_table_rules, task_stack_rules, inner_stack_rules, event_gate_rules, target_rules, jump_target_rules, call_gate_rules, direct_rules, return_rules, offset_rules};
+ghost use Rattle.m386_segload.specs.Rules.{stack_rules, data_rules, local_table_rules, task_stack_rules, inner_stack_rules, task_rules, event_gate_rules, target_rules, jump_target_rules, call_gate_rules, direct_rules, return_rules, offset_rules};
 
 use m386_base::desc::Desc;
 use m386_base::exception::Exception;
@@ -39,6 +39,8 @@ pub enum Requirement {
     Code,
     /// An LDT.
     LocalTable,
+    /// A 386 TSS that isn't busy.
+    AvailableTss,
     /// An interrupt or trap gate.
     EventGate,
     /// A type that LAR knows.
@@ -108,6 +110,14 @@ pub const DATA_RULES: [Rule; 4] = rules![
 pub const LOCAL_TABLE_RULES: [Rule; 3] = rules![
     InTable GeneralProtection true;
     LocalTable GeneralProtection true;
+    Present SegmentNotPresent true;
+];
+
+/// A load of TR (PRM 17.2.2.11, LTR).
+pub const TASK_RULES: [Rule; 4] = rules![
+    NotNull GeneralProtection false;
+    InTable GeneralProtection true;
+    AvailableTss GeneralProtection true;
     Present SegmentNotPresent true;
 ];
 
@@ -189,6 +199,7 @@ pub fn tables_are_those_of_the_definition()
     ensures stack { STACK_RULES ≡ stack_rules }
     ensures data { DATA_RULES ≡ data_rules }
     ensures local_table { LOCAL_TABLE_RULES ≡ local_table_rules }
+    ensures task { TASK_RULES ≡ task_rules }
     ensures task_stack { TASK_STACK_RULES ≡ task_stack_rules }
     ensures inner_stack { INNER_STACK_RULES ≡ inner_stack_rules }
     ensures event_gate { EVENT_GATE_RULES ≡ event_gate_rules }

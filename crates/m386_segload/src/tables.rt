@@ -1,5 +1,6 @@
 //! Where the descriptor of a selector stands.
 ghost use Rattle.std.specs.Prelude.{◌≡◌};
+ghost use Rattle.m386_desc.specs.Selector.{place_in};
 ghost use Rattle.m386_segload.specs.Tables.{held, is_in_ldt, base_of_ldt, is_there, is_in_gdt, place_for, table_role, accessed_role};
 
 use m386_base::ask::Role;
@@ -17,7 +18,7 @@ pub fn held(seg: &Seg) -> Option<Desc>
 }
 
 /// Whether a selector names a place in the LDT that is held.
-fn is_in_ldt(ldt: Option<Desc>, selector: u16) -> bool
+pub fn is_in_ldt(ldt: Option<Desc>, selector: u16) -> bool
     ensures { result ≡ is_in_ldt ldt selector }
 {
     match ldt {
@@ -27,7 +28,7 @@ fn is_in_ldt(ldt: Option<Desc>, selector: u16) -> bool
 }
 
 /// The base of the LDT.
-fn base_of_ldt(ldt: Option<Desc>) -> u32
+pub fn base_of_ldt(ldt: Option<Desc>) -> u32
     ensures { result ≡ base_of_ldt ldt }
 {
     match ldt {
@@ -55,6 +56,13 @@ pub fn is_in_gdt(p: &Proc, selector: u16) -> bool
     !is_null(selector) && (!in_ldt(selector) && in_table(selector, u32::from(p.gdtr.limit)))
 }
 
+/// Where the descriptor of a selector stands in a table at this base (PRM 5.1.3).
+pub fn place_in(base: u32, selector: u16) -> u32
+    ensures { result ≡ place_in base selector }
+{
+    base.wrapping_add(u32::from(selector / 8 * 8))
+}
+
 /// The linear address of the descriptor that a selector names (PRM 5.1.3).
 pub fn place_for(p: &Proc, selector: u16) -> u32
     ensures { result ≡ place_for p.now selector }
@@ -64,7 +72,7 @@ pub fn place_for(p: &Proc, selector: u16) -> u32
     } else {
         p.gdtr.base
     };
-    base.wrapping_add(u32::from(selector / 8 * 8))
+    place_in(base, selector)
 }
 
 /// The role of a descriptor's read.

@@ -1,2 +1,14 @@
+pub mod Attempts
+pub mod DescriptorShows
+pub mod FieldShows
+pub mod LaterRows
+pub mod Law
 pub mod Loops
+pub mod Moves
+pub mod Nested
+pub mod Outcomes
 pub mod Plain
+pub mod Rows
+pub mod Shows
+pub mod Six
+pub mod Whole

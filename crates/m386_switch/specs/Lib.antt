@@ -1,2 +1,9 @@
+pub mod Attempts
+pub mod Ends
 pub mod Fields
 pub mod Inner
+pub mod Later
+pub mod Ltr
+pub mod Parts
+pub mod Seen
+pub mod Switch

@@ -1,4 +1,4 @@
-//! Fields of a task state segment on the bus (PRM 7.1).
+//! Fields of a task state segment, read on the bus (PRM 7.1).
 ghost use Rattle.std.specs.Prelude.{◌≡◌, false, ◌<◌};
 ghost use Rattle.m386_base.specs.Phrase.{PerformsOrStops, it};
 ghost use Rattle.m386_base.specs.Split.{AreGroups};
