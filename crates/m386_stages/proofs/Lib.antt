@@ -1,0 +1,13 @@
+pub mod Chains
+pub mod Claimed
+pub mod Described
+pub mod Entered
+pub mod Law
+pub mod Linked
+pub mod Moved
+pub mod OneByte
+pub mod Rows
+pub mod Saved
+pub mod Ways
+pub mod Whole
+pub mod Words
