@@ -1,0 +1,6 @@
+//! Processors that run in threads of their own.
+#![tactic(auto)]
+
+pub mod locked;
+#[cfg(test)]
+mod tests;

@@ -1,0 +1,4 @@
+//! What several threads share under one lock: processors, of which one at a time makes its cycles.
+#![tactic(auto)]
+
+pub mod turns;
