@@ -1,1 +1,11 @@
+pub mod Copied
+pub mod Entries
 pub mod Failures
+pub mod Found
+pub mod Guarded
+pub mod Keeping
+pub mod Lives
+pub mod Numbers
+pub mod Places
+pub mod Still
+pub mod Walks

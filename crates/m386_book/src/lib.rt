@@ -1,10 +1,16 @@
-//! The verdict on a run: whether its image and its cycles keep the rules under which no two processors hold one task.
+//! The book of a run, which says who holds which task, and the verdict: whether its image and its cycles keep the rules under
+//! which no two processors hold one task.
 #![tactic(auto)]
 
-mod bytes;
+pub mod clean;
+pub mod holding;
 pub mod laws;
-pub mod plain;
+mod moves;
 mod rules;
+mod segments;
+mod table;
+mod tasks;
 #[cfg(test)]
 mod tests;
 pub mod verdict;
+pub mod waiting;
