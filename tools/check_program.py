@@ -221,12 +221,30 @@ def plans(checks):
     checks.want(two == ["00000202", "00000008", "00001007"] * 2, f"of two entries that are due the second waits until the first's handler has returned: {two}")
 
 
+def tss(base, access=0x89):
+    """The descriptor of a TSS with the limit 67h."""
+    return bytes([0x67, 0, *base.to_bytes(3, "little"), access, 0, base >> 24])
+
+
 def verdicts(checks):
-    """The last line, by the limit of the GDT and where it lies."""
-    for gdt, idt, line in [((0, 0), (0, 0), "clean"), ((0, 14), (0, 0xFFFF), "clean"), ((0, 15), (0, 0), "unjudged"), ((0x3FF1, 14), (0, 0), "clean"),
+    """The last line, by the limit of the GDT and where it lies, by its tasks, and by what the program does."""
+    for gdt, idt, line in [((0, 0), (0, 0), "clean"), ((0, 14), (0, 0xFFFF), "clean"), ((0, 15), (0, 0), "clean"), ((0x3FF1, 14), (0, 0), "clean"),
                            ((0x3FF2, 14), (0, 0), "unclean rule 1"), ((0x2003, 0), (0, 0), "unclean rule 7 at 4"), ((0x2004, 0), (0x2000, 3), "clean")]:
         lines = checks.run(["--steps=3"], image(gdt=gdt, idt=idt))
         checks.want(lines[-1] == line, f"GDT {gdt}, IDT {idt}: {line} is wanted, and it was {lines[-1]}")
+    # Two TSSs by the descriptors 0008 and 0010 of a GDT at 1800h. The program stores four bytes at 2000h by its fifth cycle.
+    for one, other, line in [
+        (tss(0x3000), tss(0x3068), "clean"), (tss(0x3000), tss(0x3000), "unclean rule 4"), (tss(0x3067), tss(0x3000), "unclean rule 4"),
+        (tss(0x3000), tss(0x3F99), "unclean rule 2"), (tss(0x3000), tss(0x3F98), "clean"), (tss(0x1799), tss(0x3000), "unclean rule 3"),
+        (tss(0x1798), tss(0x3000), "clean"), (tss(0x3000), tss(0x3100, 0x8B), "unclean rule 5"), (tss(0x3000), tss(0x3000, 0x0B), "clean"),
+        (tss(0x3000), tss(0x2003), "unclean rule 7 at 4"), (tss(0x1F99), tss(0x3000), "unclean rule 7 at 4"), (tss(0x1F98), tss(0x2004), "clean"),
+    ]:
+        lines = checks.run(["--steps=3"], image(gdt=(0x1800, 0x17), more=[(0x1808, one + other)]))
+        checks.want(lines[-1] == line, f"TSSs {one.hex()} and {other.hex()}: {line} is wanted, and it was {lines[-1]}")
+    # LGDT [2000h] reads its six bytes by the third cycle. POPF takes 4002h from the stack by the seventh.
+    for code, line in [("0f011500200000f4", "unclean rule 6 at 2"), ("bc0020000068024000009d", "unclean rule 8 at 6")]:
+        lines = checks.run(["--steps=3"], image(bytes.fromhex(code)))
+        checks.want(lines[-1] == line, f"{code}: {line} is wanted, and it was {lines[-1]}")
 
 
 def main():

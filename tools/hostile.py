@@ -17,7 +17,7 @@ import sys
 from collections import Counter
 
 REPORT = re.compile(
-    rb"m386 report 1\nmemory [0-9a-f]{8} cpus \d\n(c [0-7] [^\n]*\n)*(p [0-7] [^\n]*\n)+(t [^\n]*\n)*(clean|unclean [^\n]*|unjudged)\n\Z"
+    rb"m386 report 1\nmemory [0-9a-f]{8} cpus \d\n(c [0-7] [^\n]*\n)*(p [0-7] [^\n]*\n)+(t [^\n]*\n)*(clean|unclean [^\n]*)\n\Z"
 )
 USAGE = [b"1 Command", b"2 Line", b"3 Value", b"4 Cpus", b"5 Budget"]
 IMAGE = [

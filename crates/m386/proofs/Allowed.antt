@@ -37,7 +37,7 @@ pub not_done : (words : List (List ℕ)) (old new : Edges) (bytes : List ℕ) (f
 not_done words old new bytes fault l f h = not_run words old new h.0 bytes fault h.1 l f
 
 -- a report has a first line
-some_report : (image : ImageData) (history : List Cycle) (procs : List (ProcEnd Proc)) (verdict : Option Verdict) → 0 < length (report_text image history procs verdict)
+some_report : (image : ImageData) (history : List Cycle) (procs : List (ProcEnd Proc)) (verdict : Verdict) → 0 < length (report_text image history procs verdict)
 unfolding report_text title_text
 some_report image history procs verdict =
     let rest : List ℕ = machine_text image (length procs) ++ flat_map cycle_text history ++ procs_text 0 procs ++ verdict_text verdict in

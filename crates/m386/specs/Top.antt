@@ -1,5 +1,5 @@
 -- What a call of the program answers, and what it leaves of its source and its sinks.
-use Rattle.std.specs.Prelude.{◌≡◌, ℕ, ◌+◌, ◌*◌, ◌<◌, ◌≤◌, ◌↔◌, ◌⊎◌, nat_lt, if◌then◌else◌, Ok, Err, Option, Some, None, IsSome, IfSome, List, length}
+use Rattle.std.specs.Prelude.{◌≡◌, ℕ, ◌+◌, ◌*◌, ◌<◌, ◌≤◌, ◌⊎◌, nat_lt, if◌then◌else◌, Ok, Err, Option, Some, None, List, length}
 use Rattle.m386_base.specs.Bus.{Rose}
 use Rattle.m386_base.specs.declared.ask.Cycle.{Cycle}
 use Rattle.m386_book.specs.Verdict.{IsFirstFailure}
@@ -62,25 +62,21 @@ at_edges left reads_failed held writes_failed = record { left = left; reads_fail
 abbrev pub at_out : Option (List ℕ) → ℕ → Edges
 at_out held writes_failed = at_edges None 0 held writes_failed
 
--- the verdict on a history: its first failure where the image can have no task, else none
-pub record HasVerdict (image : ImageRecord) (history : List Cycle) (verdict : Option Verdict) : Type 0 where
-  pub judged : IsSome verdict ↔ (image.gdt.limit < 15)
-  pub first : IfSome verdict (IsFirstFailure image history)
-
 -- The history and the ends are of a run of the image with as many processors and steps as are asked for, and the cycles
 -- are in the order that is asked for.
 pub record IsRunOf (image : ImageRecord) (asked : Asked) (history : List Cycle) (ends : List (ProcEnd Proc)) : Type 0 where
   pub run : Run image (count_of image asked.cpus) asked.steps history ends
   pub in_order : InOrder image (count_of image asked.cpus) asked.steps asked.order history
 
--- The text is the report of the run of an image: the history, the ends and the verdict that it prints are those of the run.
+-- The text is the report of the run of an image: the history and the ends that it prints are those of the run, and the verdict
+-- is its first failure.
 pub record IsRunText (image : ImageRecord) (asked : Asked) (text : List ℕ) : Type 0 where
   pub allowed : refusal image asked ≡ None
   pub history : List Cycle
   pub ends : List (ProcEnd Proc)
   pub run : IsRunOf image asked history ends
-  pub verdict : Option Verdict
-  pub is_judged : HasVerdict image history verdict
+  pub verdict : Verdict
+  pub first_failure : IsFirstFailure image history verdict
   pub text_is : text ≡ report_text image history ends verdict
 
 -- the source was read to its end, and gave these bytes

@@ -1,15 +1,18 @@
 //! The work of a call: from its words and its input to its output.
-ghost use Rattle.std.specs.Prelude.{◌≡◌, ◌↔◌, ◌<◌, ◌≤◌, ℕ, List, All, length, Option};
+ghost use Rattle.std.specs.Prelude.{◌≡◌, ◌<◌, ◌≤◌, ℕ, List, All, IfOk, length};
 ghost use Rattle.m386_image.specs.Format.{IsValid};
+ghost use Rattle.m386_book.specs.Verdict.{IsFirstFailure};
 ghost use Rattle.m386_book.specs.declared.verdict.Verdict.{Verdict as VerdictData};
 ghost use Rattle.m386_trace.specs.Report.{report_text};
-ghost use Rattle.m386.specs.Top.{IsAnswer, IsAnswerOf, IsAnswerTo, HasVerdict, OutTakes, at_edges, at_out, count_of, excess};
+ghost use Rattle.m386.specs.Top.{IsAnswer, IsAnswerOf, IsAnswerTo, OutTakes, at_edges, at_out, count_of, excess};
 ghost use Rattle.m386.specs.Words.{texts, IsAsked};
 
 use crate::run::run_image;
 use crate::status::{Status, UsageKind};
 use crate::words::{Asked, read_words};
-use m386_book::plain::plain_verdict;
+use m386_base::fault::NoMemory;
+use m386_book::clean::clean;
+use m386_book::verdict::Verdict;
 use m386_edge::failed::Failed;
 use m386_edge::reading::{ReadEnd, read_whole};
 use m386_edge::sink::Sink;
@@ -51,22 +54,24 @@ fn excess_of(has: u8, count: u8, steps: u32) -> Option<UsageKind>
     }
 }
 
-/// Writes the report on a run, whose verdict is reached first.
-fn write_run<K: Sink>(image: &Image, ended: &Ended<Proc>, out: &mut K) -> Status
+/// The verdict on a run.
+fn verdict_on(alloc: Global, image: &Image, ended: &Ended<Proc>) -> Result<Verdict, NoMemory>
+    requires { All (λ c. c.cpu < 8) ended.now.log.cycles }
+    ensures { IfOk result (IsFirstFailure image.now ended.now.log.cycles) }
+{
+    clean(alloc, image, ended.log.cycles())
+}
+
+/// Writes the report on a run, whose verdict this is.
+fn write_run<K: Sink>(image: &Image, ended: &Ended<Proc>, verdict: &Verdict, out: &mut K) -> Status
     requires cpus { All (λ c. c.cpu < 8) ended.now.log.cycles }
     requires few { length ended.now.procs ≤ 8 }
-    ensures { (verdict : Option VerdictData) × HasVerdict image.now ended.now.log.cycles verdict
+    requires first { IsFirstFailure image.now ended.now.log.cycles verdict.now }
+    ensures { (first : VerdictData) × IsFirstFailure image.now ended.now.log.cycles first
         × OutTakes (at_out (K.held out.old) (K.faults out.old)) (at_out (K.held out.new) (K.faults out.new))
-        (report_text image.now ended.now.log.cycles ended.now.procs verdict) result }
+        (report_text image.now ended.now.log.cycles ended.now.procs first) result }
 {
-    let verdict = plain_verdict(image, ended.log.cycles());
-    match report(
-        image,
-        &ended.log,
-        ended.procs.as_slice(),
-        verdict.as_ref(),
-        out,
-    ) {
+    match report(image, &ended.log, ended.procs.as_slice(), verdict, out) {
         Ok(()) => Status::Done,
         Err(Failed) => Status::WriteFault,
     }
@@ -85,7 +90,10 @@ fn run_asked<K: Sink>(alloc: Global, image: &Image, asked: &Asked, out: &mut K) 
     let Ok(ended) = run_image(alloc, image, cpus, asked.steps, &asked.order) else {
         return Status::Memory;
     };
-    write_run(image, &ended, out)
+    let Ok(verdict) = verdict_on(alloc, image, &ended) else {
+        return Status::Memory;
+    };
+    write_run(image, &ended, &verdict, out)
 }
 
 /// Runs the image that the bytes are as it is asked to, and writes the report.

@@ -342,13 +342,13 @@ length-machine_text image cpus small =
       length-decimal cpus small,
     )
 
-report_then : (image : Image) (history : List Cycle) (procs : List (ProcEnd Proc)) (verdict : Option Verdict)
+report_then : (image : Image) (history : List Cycle) (procs : List (ProcEnd Proc)) (verdict : Verdict)
     → report_text image history procs verdict ≡ title_text ++ (machine_text image (length procs) ++ (flat_map cycle_text history ++ (procs_text 0 procs ++ verdict_text verdict)))
 unfolding report_text
 report_then image history procs verdict = simp append_assoc
 
 -- two runs with one report have the same cycles
-pub tells_cycles : (history other : List Cycle) (image other_image : Image) (procs other_procs : List (ProcEnd Proc)) (verdict other_verdict : Option Verdict)
+pub tells_cycles : (history other : List Cycle) (image other_image : Image) (procs other_procs : List (ProcEnd Proc)) (verdict other_verdict : Verdict)
     → HasReport history procs → HasReport other other_procs
     → report_text image history procs verdict ≡ report_text other_image other other_procs other_verdict → history ≡ other
 tells_cycles history other image other_image procs other_procs verdict other_verdict one two same =

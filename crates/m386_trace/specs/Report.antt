@@ -90,17 +90,15 @@ title_text = codes "m386 report 1\n"
 unfoldable pub machine_text : Image → ℕ → List ℕ
 machine_text image cpus = line_text (codes "memory") (hex8 image.memory ∷ codes "cpus" ∷ decimal cpus ∷ [])
 
--- The last line: the verdict, or that none was reached.
--- Own choice: docs/DECISIONS.md, "The verdict"
-unfoldable pub verdict_text : Option Verdict → List ℕ
-verdict_text None = line_text (codes "unjudged") []
-verdict_text (Some Clean) = line_text (codes "clean") []
-verdict_text (Some (Static rule)) = line_text (codes "unclean") (codes "rule" ∷ decimal rule ∷ [])
-verdict_text (Some (At rule index)) = line_text (codes "unclean") (codes "rule" ∷ decimal rule ∷ codes "at" ∷ decimal index ∷ [])
-
--- The report on a run: its cycles in their order, then its processors, then the verdict. No image with a GDT limit of 15
--- or more is run yet, and there is no line for a task.
+-- The last line: the verdict.
 -- Own choice: docs/DECISIONS.md, "The report"
-unfoldable pub report_text : Image → List Cycle → List (ProcEnd Proc) → Option Verdict → List ℕ
+unfoldable pub verdict_text : Verdict → List ℕ
+verdict_text Clean = line_text (codes "clean") []
+verdict_text (Static rule) = line_text (codes "unclean") (codes "rule" ∷ decimal rule ∷ [])
+verdict_text (At rule index) = line_text (codes "unclean") (codes "rule" ∷ decimal rule ∷ codes "at" ∷ decimal index ∷ [])
+
+-- The report on a run: its cycles in their order, then its processors, then the verdict. There is no line for a task yet.
+-- Own choice: docs/DECISIONS.md, "The report"
+unfoldable pub report_text : Image → List Cycle → List (ProcEnd Proc) → Verdict → List ℕ
 report_text image history procs verdict =
     title_text ++ machine_text image (length procs) ++ flat_map cycle_text history ++ procs_text 0 procs ++ verdict_text verdict

@@ -1,5 +1,5 @@
 -- What a report tells of its run.
-use Rattle.std.specs.Prelude.{◌≡◌, ◌^◌, ◌<◌, List, Option, length}
+use Rattle.std.specs.Prelude.{◌≡◌, ◌^◌, ◌<◌, List, length}
 use Rattle.std.specs.List.{AllByRecursion}
 use Rattle.m386_base.specs.declared.ask.Cycle.{Cycle}
 use Rattle.m386_image.specs.declared.image.Image.{Image}
@@ -25,6 +25,6 @@ pub record HasReport (history : List Cycle) (procs : List (ProcEnd Proc)) : Type
 -- Two runs with one report have the same cycles.
 abbrev pub TellsCycles : List Cycle → List Cycle → Type 0
 TellsCycles history other =
-    (image other_image : Image) (procs other_procs : List (ProcEnd Proc)) (verdict other_verdict : Option Verdict)
+    (image other_image : Image) (procs other_procs : List (ProcEnd Proc)) (verdict other_verdict : Verdict)
     → HasReport history procs → HasReport other other_procs
     → report_text image history procs verdict ≡ report_text other_image other other_procs other_verdict → history ≡ other

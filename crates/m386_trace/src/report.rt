@@ -1,7 +1,6 @@
 //! The whole report, written line by line.
 ghost use Rattle.std.specs.Prelude.{◌+◌, ◌<◌, ◌≤◌, ◌++◌, OnOk, OnErr, length, All};
 ghost use Rattle.std.specs.List.{flat_map};
-ghost use Rattle.std.specs.Option.{option_copied};
 ghost use Rattle.m386_base.specs.Bus.{Rose};
 ghost use Rattle.m386_edge.specs.Edge.{Grows, GrowsByFront};
 ghost use Rattle.m386_trace.specs.Report.{cycle_text, machine_text, procs_text, report_text, title_text, IsPrintable};
@@ -73,22 +72,22 @@ fn write_procs<K: Sink>(procs: &[ProcEnd<Proc>], out: &mut K) -> Result<(), Fail
 }
 
 /// Writes the report on a run to a sink, each line as one piece: the image that it began with, its cycles, how each
-/// processor ended, and the verdict where one was reached. Where the sink fails it has taken a front of the report. It
+/// processor ended, and the verdict. Where the sink fails it has taken a front of the report. It
 /// takes no memory.
 #[tactic(auto, using(m386_edge::proofs::Edge::growing), unfolding(crate::specs::Report::report_text))]
 pub fn report<K: Sink>(
     image: &Image,
     log: &Record,
     procs: &[ProcEnd<Proc>],
-    verdict: Option<&Verdict>,
+    verdict: &Verdict,
     out: &mut K,
 ) -> Result<(), Failed>
     requires cpus { All (λ c. c.cpu < 8) log.now.cycles }
     requires few { length procs.now ≤ 8 }
     ensures ok { OnOk result (Grows (K.held out.old) (K.held out.new)
-        (report_text image.now log.now.cycles procs.now (option_copied verdict.entry))) }
+        (report_text image.now log.now.cycles procs.now verdict.now)) }
     ensures err { OnErr result (GrowsByFront (K.held out.old) (K.held out.new)
-        (report_text image.now log.now.cycles procs.now (option_copied verdict.entry))) }
+        (report_text image.now log.now.cycles procs.now verdict.now)) }
     ensures failed { OnErr result (Rose (K.faults out.old) (K.faults out.new)) }
     ensures never_falls { K.faults out.old ≤ K.faults out.new }
 {

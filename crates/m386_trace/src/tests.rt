@@ -292,8 +292,7 @@ fn each_field_of_a_cycle_stands_in_its_place(rt: HostRuntime) {
 
 #[test]
 fn verdicts(rt: HostRuntime) {
-    assert_eq!(rt; verdict_line(None).as_str(), "unjudged\n");
-    assert_eq!(rt; verdict_line(Some(&Verdict::Clean)).as_str(), "clean\n");
+    assert_eq!(rt; verdict_line(&Verdict::Clean).as_str(), "clean\n");
     for (verdict, line) in [
         (Verdict::Static(1), "unclean rule 1\n"),
         (Verdict::Static(4), "unclean rule 4\n"),
@@ -307,7 +306,7 @@ fn verdicts(rt: HostRuntime) {
             "unclean rule 9 at 18446744073709551615\n",
         ),
     ] {
-        assert_eq!(rt; verdict_line(Some(&verdict)).as_str(), line);
+        assert_eq!(rt; verdict_line(&verdict).as_str(), line);
     }
 }
 
@@ -360,13 +359,7 @@ fn written(alloc: Global, fails: u32) -> Result<(MemSink, Result<(), Failed>), F
     let image = image_of(alloc, 16384, 1);
     let log = two_cycles(alloc)?;
     let mut sink = MemSink::new(alloc, 512, 4096, [fails].to_vec(alloc)?)?;
-    let ended = report(
-        &image,
-        &log,
-        &[first_run()],
-        Some(&Verdict::Clean),
-        &mut sink,
-    );
+    let ended = report(&image, &log, &[first_run()], &Verdict::Clean, &mut sink);
     Ok((sink, ended))
 }
 
@@ -404,12 +397,12 @@ fn each_processor_has_its_line(rt: HostRuntime) -> Result<(), Fail> {
         &image_of(alloc, 16384, 2),
         &log,
         &[first_run(), second],
-        None,
+        &Verdict::Static(4),
         &mut sink,
     );
     assert_eq!(rt; ended, Ok(()));
     let text = format!(in alloc;
-        "m386 report 1\nmemory 00004000 cpus 2\n{FIRST_RUN}{SECOND_RUN}unjudged\n"
+        "m386 report 1\nmemory 00004000 cpus 2\n{FIRST_RUN}{SECOND_RUN}unclean rule 4\n"
     )?;
     assert_eq!(rt; sink.bytes(), text.as_bytes());
     Ok(())

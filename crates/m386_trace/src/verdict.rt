@@ -1,6 +1,5 @@
 //! The line of the verdict.
 ghost use Rattle.std.specs.Prelude.{◌≡◌, ◌+◌, ◌<◌, ◌≤◌, ◌++◌, ◌∷◌, [], length, codes, decimal};
-ghost use Rattle.std.specs.Option.{option_copied};
 ghost use Rattle.arrayvec.specs.ArrayString.{array_string_len};
 ghost use Rattle.m386_trace.specs.Line.{spaced};
 ghost use Rattle.m386_trace.specs.Report.{verdict_text};
@@ -44,16 +43,15 @@ fn word(text: &str) -> ArrayString<64>
     line
 }
 
-/// The last line of the report, where a verdict was reached or none was.
+/// The last line of the report.
 #[tactic(auto, unfolding(crate::specs::Report::verdict_text))]
-pub(crate) fn verdict_line(verdict: Option<&Verdict>) -> ArrayString<64>
-    ensures { result.bytes ≡ verdict_text (option_copied verdict.entry) }
+pub(crate) fn verdict_line(verdict: &Verdict) -> ArrayString<64>
+    ensures { result.bytes ≡ verdict_text verdict.now }
 {
     let mut line = match verdict {
-        None => word("unjudged"),
-        Some(Verdict::Clean) => word("clean"),
-        Some(Verdict::Static(rule)) => unclean(*rule),
-        Some(Verdict::At { rule, index }) => unclean_at(*rule, *index),
+        Verdict::Clean => word("clean"),
+        Verdict::Static(rule) => unclean(*rule),
+        Verdict::At { rule, index } => unclean_at(*rule, *index),
     };
     line.push_str("\n");
     line

@@ -19,6 +19,13 @@ const DATA_SEGMENT: [u8; 36] = [
     0x00, 0x92, 0x40, 0x00,
 ];
 
+/// At 1000h HLT. At 1808h two descriptors of one TSS at 3000h.
+const TWO_NAMES: [u8; 33] = [
+    0x00, 0x10, 0x00, 0x00, 0x01, 0x00, 0x00, 0x00, 0xf4, 0x08, 0x18, 0x00, 0x00, 0x10, 0x00, 0x00,
+    0x00, 0x67, 0x00, 0x00, 0x30, 0x00, 0x89, 0x00, 0x00, 0x67, 0x00, 0x00, 0x30, 0x00, 0x89, 0x00,
+    0x00,
+];
+
 /// The same with the IDT at 1900h with the limit 107h, an entry of the plan, and four sections.
 const WITH_EVENTS: [u8; 64] = [
     0x4d, 0x33, 0x38, 0x36, 0x01, 0x00, 0x01, 0x00, 0x00, 0x40, 0x00, 0x00, 0x00, 0x18, 0x00, 0x00,
@@ -108,25 +115,45 @@ fn reports_calls_and_flags_on_the_stack(rt: HostRuntime) -> Result<(), Fail> {
 }
 
 #[test]
-fn reports_a_load_of_ds_and_an_access_past_its_limit(rt: HostRuntime) -> Result<(), Fail> {
-    let lines = [
-        "c 0 m r . fetch 00 00001000 f 000010b8",
-        "c 0 m r . fetch 00 00001004 f a1d88e00",
-        "c 0 m r . fetch 00 00001004 f a1d88e00",
-        "c 0 m r . gdt 00 00001810 f 20000003",
-        "c 0 m r + gdt 00 00001814 f 00409200",
-        "c 0 m w + gdtacc 00 00001814 2 00009300",
-        "c 0 m r . fetch 00 00001004 f a1d88e00",
-        "c 0 m r . fetch 00 00001008 f 00000004",
-        "p 0 running steps 3 eip 00001007 efl 00000002 eax 00000010 ecx 00000000 edx 00000000 ebx 00000000 esp 00000000 ebp 00000000 esi 00000000 edi 00000000 es 0010 cs 0008 ss 0010 ds 0010 fs 0010 gs 0010 ldt 0000 tr 0000 cr0 00000001 pending 0d 0000",
-        "unjudged",
+fn reports_runs_with_a_table(rt: HostRuntime) -> Result<(), Fail> {
+    // The sections, the steps, and the lines.
+    let rows: [(&str, &[u8], &str, &[&str]); 2] = [
+        (
+            "a load of DS and an access past its limit",
+            &DATA_SEGMENT,
+            "--steps=3",
+            &[
+                "c 0 m r . fetch 00 00001000 f 000010b8",
+                "c 0 m r . fetch 00 00001004 f a1d88e00",
+                "c 0 m r . fetch 00 00001004 f a1d88e00",
+                "c 0 m r . gdt 00 00001810 f 20000003",
+                "c 0 m r + gdt 00 00001814 f 00409200",
+                "c 0 m w + gdtacc 00 00001814 2 00009300",
+                "c 0 m r . fetch 00 00001004 f a1d88e00",
+                "c 0 m r . fetch 00 00001008 f 00000004",
+                "p 0 running steps 3 eip 00001007 efl 00000002 eax 00000010 ecx 00000000 edx 00000000 ebx 00000000 esp 00000000 ebp 00000000 esi 00000000 edi 00000000 es 0010 cs 0008 ss 0010 ds 0010 fs 0010 gs 0010 ldt 0000 tr 0000 cr0 00000001 pending 0d 0000",
+                "clean",
+            ],
+        ),
+        (
+            "two names for one TSS",
+            &TWO_NAMES,
+            "--steps=1",
+            &[
+                "c 0 m r . fetch 00 00001000 f 000000f4",
+                "p 0 halted steps 1 eip 00001001 efl 00000002 eax 00000000 ecx 00000000 edx 00000000 ebx 00000000 esp 00000000 ebp 00000000 esi 00000000 edi 00000000 es 0010 cs 0008 ss 0010 ds 0010 fs 0010 gs 0010 ldt 0000 tr 0000 cr0 00000001 pending none",
+                "unclean rule 4",
+            ],
+        ),
     ];
-    let image = joined(rt.alloc(), &WITH_SEGMENTS, &DATA_SEGMENT)?;
-    let words = ["run", "--order=round", "--steps=3"];
-    let came = call(rt.alloc(), &words, image, 16, NO_FAILURE)?;
-    let want = report_with(rt.alloc(), &lines)?;
-    assert_eq!(rt; came.status, Status::Done);
-    assert_eq!(rt; came.out.bytes(), want.as_bytes());
+    for (case, sections, steps, lines) in rows {
+        let image = joined(rt.alloc(), &WITH_SEGMENTS, sections)?;
+        let words = ["run", "--order=round", steps];
+        let came = call(rt.alloc(), &words, image, 16, NO_FAILURE)?;
+        let want = report_with(rt.alloc(), lines)?;
+        assert_eq!(rt; came.status, Status::Done, "{case}");
+        assert_eq!(rt; came.out.bytes(), want.as_bytes(), "{case}");
+    }
     Ok(())
 }
 
@@ -154,7 +181,7 @@ fn reports_an_interrupt_of_the_plan(rt: HostRuntime) -> Result<(), Fail> {
         "c 0 m r + gdt 00 0000180c f 00cf9b00",
         "c 0 m r . fetch 00 00001004 f f4f4fb00",
         "p 0 halted steps 6 eip 00001008 efl 00000202 eax 00000000 ecx 00000000 edx 00000000 ebx 00000000 esp 00002000 ebp 00000000 esi 00000000 edi 00000000 es 0010 cs 0008 ss 0010 ds 0010 fs 0010 gs 0010 ldt 0000 tr 0000 cr0 00000001 pending none",
-        "unjudged",
+        "clean",
     ];
     let image = joined(rt.alloc(), &WITH_EVENTS, &TIMER)?;
     let words = ["run", "--order=round", "--steps=6"];

@@ -5,7 +5,7 @@ use super::{NO_FAILURE, OTHERS, call, image_of, sink_failing};
 use crate::run::run_image;
 use crate::status::{Status, UsageKind};
 use m386_base::list::List;
-use m386_book::plain::plain_verdict;
+use m386_book::clean::clean;
 use m386_core::order::Order;
 use m386_edge::mem_sink::MemSink;
 use m386_image::reading::read_image;
@@ -137,13 +137,15 @@ fn report_in(alloc: Global, members: Vec<u8>) -> Result<MemSink, Fail> {
     }
     let order = Order::List(List::of(members));
     let ended = run_image(alloc, &image, 2, 2, &order)?;
-    let verdict = plain_verdict(&image, ended.log.cycles());
+    let Ok(verdict) = clean(alloc, &image, ended.log.cycles()) else {
+        return Err(Fail::new("no memory for a verdict"));
+    };
     let mut out = sink_failing(alloc, 0)?;
     let written = report(
         &image,
         &ended.log,
         ended.procs.as_slice(),
-        verdict.as_ref(),
+        &verdict,
         &mut out,
     );
     if written.is_err() {
