@@ -38,13 +38,13 @@ opens_alone (Some a) h = h a refl
 last_or_below : (p k : ℕ) → p < k + 1 → (p ≡ k) ⊎ (p < k)
 last_or_below p k lt = grind arith
 
-pub begun_more : (I : Image) (n : ℕ) (E : List (ProcEnd Proc)) (unfinished : List Unfinished) (k : ℕ) (e : ProcEnd Proc) (t : Unfinished) → BegunSoFar I n E unfinished k → EndsOrWaits n (plan_of I k) (start_of I k) [] e t.answers.items (entries_left k t.plan) t.next → ForSome t.next (λ a. a.joined ≡ false) → BegunSoFar I n (E ++ e ∷ []) (unfinished ++ t ∷ []) (k + 1)
+pub begun_more : (I : Image) (n : ℕ) (E : List (ProcEnd Proc)) (unfinished : List Unfinished) (k : ℕ) (e : ProcEnd Proc) (t : Unfinished) → BegunSoFar I n E unfinished k → EndsOrWaits n (plan_of I k) (start_of I k) [] e t (entries_left k t.plan) t.next → ForSome t.next (λ a. a.joined ≡ false) → BegunSoFar I n (E ++ e ∷ []) (unfinished ++ t ∷ []) (k + 1)
 begun_more I n E unfinished k e t h new opens = record {
   count = omega (arith, length-append E (e ∷ []), h.count);
   count_unfinished = omega (arith, length-append unfinished (t ∷ []), h.count_unfinished);
   each = λ p d u lt. elim (last_or_below p k lt) [
     | inl is ↦
-        let P : ℕ → Type 0 = λ q. EndsOrWaits n (plan_of I q) (start_of I q) [] (get_or (E ++ e ∷ []) q d) (get_or (unfinished ++ t ∷ []) q u).answers.items (entries_left q (get_or (unfinished ++ t ∷ []) q u).plan) (get_or (unfinished ++ t ∷ []) q u).next in
+        let P : ℕ → Type 0 = λ q. EndsOrWaits n (plan_of I q) (start_of I q) [] (get_or (E ++ e ∷ []) q d) (get_or (unfinished ++ t ∷ []) q u) (entries_left q (get_or (unfinished ++ t ∷ []) q u).plan) (get_or (unfinished ++ t ∷ []) q u).next in
         subst P (sym is) (rw (get_or-last E e d k h.count, get_or-last unfinished t u k h.count_unfinished) new)
     | inr below ↦ rw (get_or-front E e d k p h.count below, get_or-front unfinished t u k p h.count_unfinished below) (h.each p d u below)
   ];

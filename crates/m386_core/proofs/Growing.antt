@@ -20,12 +20,12 @@ pub below_more : (c : ℕ) (H : List Cycle) (x : Cycle) → AllByRecursion (λ (
 below_more c [] x h lt = (lt, tt)
 below_more c (y ∷ H) x h lt = (h.0, below_more c H x h.1 lt)
 
-each_more : (I : Image) (c n : ℕ) (H : List Cycle) (E : List (ProcEnd Proc)) (unfinished : List Unfinished) (cpu : ℕ) (x : Cycle) (e2 : ProcEnd Proc) (t2 : Unfinished) → length E ≡ c → length unfinished ≡ c → cpu < c → x.cpu ≡ cpu → AllEndOrWait I n H E unfinished c → EndsOrWaits n (plan_of I cpu) (start_of I cpu) (cycles_of cpu H ++ x.ask ∷ []) e2 t2.answers.items (entries_left cpu t2.plan) t2.next
+each_more : (I : Image) (c n : ℕ) (H : List Cycle) (E : List (ProcEnd Proc)) (unfinished : List Unfinished) (cpu : ℕ) (x : Cycle) (e2 : ProcEnd Proc) (t2 : Unfinished) → length E ≡ c → length unfinished ≡ c → cpu < c → x.cpu ≡ cpu → AllEndOrWait I n H E unfinished c → EndsOrWaits n (plan_of I cpu) (start_of I cpu) (cycles_of cpu H ++ x.ask ∷ []) e2 t2 (entries_left cpu t2.plan) t2.next
     → AllEndOrWait I n (H ++ x ∷ []) (set E cpu e2) (set unfinished cpu t2) c
 each_more I c n H E unfinished cpu x e2 t2 count count_unfinished lt by h new p e t below = elim (cases_eq p cpu) [
   | inl is ↦
-      let P : ℕ → Type 0 = λ q. EndsOrWaits n (plan_of I q) (start_of I q) (cycles_of q (H ++ x ∷ [])) (get_or (set E cpu e2) q e) (get_or (set unfinished cpu t2) q t).answers.items (entries_left q (get_or (set unfinished cpu t2) q t).plan) (get_or (set unfinished cpu t2) q t).next in
-      let own : EndsOrWaits n (plan_of I cpu) (start_of I cpu) (cycles_of cpu (H ++ x ∷ [])) e2 t2.answers.items (entries_left cpu t2.plan) t2.next = rw (cycles_of-own cpu H x by) new in
+      let P : ℕ → Type 0 = λ q. EndsOrWaits n (plan_of I q) (start_of I q) (cycles_of q (H ++ x ∷ [])) (get_or (set E cpu e2) q e) (get_or (set unfinished cpu t2) q t) (entries_left q (get_or (set unfinished cpu t2) q t).plan) (get_or (set unfinished cpu t2) q t).next in
+      let own : EndsOrWaits n (plan_of I cpu) (start_of I cpu) (cycles_of cpu (H ++ x ∷ [])) e2 t2 (entries_left cpu t2.plan) t2.next = rw (cycles_of-own cpu H x by) new in
       let state : get_or (set E cpu e2) cpu e ≡ e2 = get_or-set_same E cpu e2 e (omega arith) in
       let step : get_or (set unfinished cpu t2) cpu t ≡ t2 = get_or-set_same unfinished cpu t2 t (omega arith) in
       subst P (sym is) (rw (state, step) own)
@@ -65,7 +65,7 @@ amid_more H unfinished c midgroup cpu x t2 count lt by alone h = record {
   ];
 }
 
-pub kept_more : (I : Image) (c n : ℕ) (first : Contents) (H : List Cycle) (E : List (ProcEnd Proc)) (unfinished : List Unfinished) (midgroup : Option ℕ) (cpu : ℕ) (x : Cycle) (e2 : ProcEnd Proc) (t2 : Unfinished) → IsKept I c n first H E unfinished midgroup → cpu < c → x.cpu ≡ cpu → is_another midgroup cpu ≡ false → IsHistory first (H ++ x ∷ []) → EndsOrWaits n (plan_of I cpu) (start_of I cpu) (cycles_of cpu H ++ x.ask ∷ []) e2 t2.answers.items (entries_left cpu t2.plan) t2.next
+pub kept_more : (I : Image) (c n : ℕ) (first : Contents) (H : List Cycle) (E : List (ProcEnd Proc)) (unfinished : List Unfinished) (midgroup : Option ℕ) (cpu : ℕ) (x : Cycle) (e2 : ProcEnd Proc) (t2 : Unfinished) → IsKept I c n first H E unfinished midgroup → cpu < c → x.cpu ≡ cpu → is_another midgroup cpu ≡ false → IsHistory first (H ++ x ∷ []) → EndsOrWaits n (plan_of I cpu) (start_of I cpu) (cycles_of cpu H ++ x.ask ∷ []) e2 t2 (entries_left cpu t2.plan) t2.next
     → IsKept I c n first (H ++ x ∷ []) (set E cpu e2) (set unfinished cpu t2) (cond (is_joined t2.next) (Some cpu) None)
 kept_more I c n first H E unfinished midgroup cpu x e2 t2 k lt by alone history new = record {
   valid = k.valid;

@@ -26,15 +26,15 @@ use Rattle.m386_core.proofs.Places.{amid_behind, amid_not_finished, amid_same}
 -- ---- one processor
 
 -- a processor that waits, by the definition
-pub waits_as : (I : Image) (n : ℕ) (H : List Cycle) (p : ℕ) (e : ProcEnd Proc) (answers : List ℕ) (left : Plan) (a : Ask) → Waits n (plan_of I p) (start_of I p) (cycles_of p H) e answers left a → WaitsAs I n H p e a
-waits_as I n H p e answers left a w = record {
+pub waits_as : (I : Image) (n : ℕ) (H : List Cycle) (p : ℕ) (e : ProcEnd Proc) (t : Unfinished) (left : Plan) (a : Ask) → (w : Waits n (plan_of I p) (start_of I p) (cycles_of p H) e t left a) → WaitsAs I n H p e w.wanted
+waits_as I n H p e t left a w = record {
   fewer = w.fewer;
-  amid = rw w.cycles (amid_behind (plan_of I p) e.steps (start_of I p) e.after w.whole w.front left a w.steps w.lives w.wants);
+  amid = rw w.cycles (amid_behind (plan_of I p) e.steps (start_of I p) e.after w.whole w.front left w.wanted w.steps w.lives w.wants);
 }
 
-placed : (I : Image) (n : ℕ) (H : List Cycle) (p : ℕ) (e : ProcEnd Proc) (answers : List ℕ) (left : Plan) (next : Option Ask) → EndsOrWaits n (plan_of I p) (start_of I p) (cycles_of p H) e answers left next → IsPlaced I n H p e
-placed I n H p e answers left None h = inl h
-placed I n H p e answers left (Some a) h = inr (a, waits_as I n H p e answers left a h)
+placed : (I : Image) (n : ℕ) (H : List Cycle) (p : ℕ) (e : ProcEnd Proc) (t : Unfinished) (left : Plan) (next : Option Ask) → EndsOrWaits n (plan_of I p) (start_of I p) (cycles_of p H) e t left next → IsPlaced I n H p e
+placed I n H p e t left None h = inl h
+placed I n H p e t left (Some a) h = inr (h.wanted, waits_as I n H p e t left a h)
 
 -- ---- all of them
 
@@ -65,12 +65,12 @@ pub record HasParts (I : Image) (n : ℕ) (H : List Cycle) (E : List (ProcEnd Pr
   pub step : Unfinished
   pub state_is : get_or E p state ≡ state
   pub step_is : get_or unfinished p step ≡ step
-  pub each : EndsOrWaits n (plan_of I p) (start_of I p) (cycles_of p H) state step.answers.items (entries_left p step.plan) step.next
+  pub each : EndsOrWaits n (plan_of I p) (start_of I p) (cycles_of p H) state step (entries_left p step.plan) step.next
 
 module _ (I : Image) (c n : ℕ) (first : Contents) (H : List Cycle) (E : List (ProcEnd Proc)) (unfinished : List Unfinished) (midgroup : Option ℕ) (k : IsKept I c n first H E unfinished midgroup) where
-  each_at : (p : ℕ) (e : ProcEnd Proc) (t : Unfinished) → p < c → get_or E p e ≡ e → get_or unfinished p t ≡ t → EndsOrWaits n (plan_of I p) (start_of I p) (cycles_of p H) e t.answers.items (entries_left p t.plan) t.next
+  each_at : (p : ℕ) (e : ProcEnd Proc) (t : Unfinished) → p < c → get_or E p e ≡ e → get_or unfinished p t ≡ t → EndsOrWaits n (plan_of I p) (start_of I p) (cycles_of p H) e t (entries_left p t.plan) t.next
   each_at p e t lt ee tt-is =
-      let P : ProcEnd Proc → Unfinished → Type 0 = λ x y. EndsOrWaits n (plan_of I p) (start_of I p) (cycles_of p H) x y.answers.items (entries_left p y.plan) y.next in
+      let P : ProcEnd Proc → Unfinished → Type 0 = λ x y. EndsOrWaits n (plan_of I p) (start_of I p) (cycles_of p H) x y (entries_left p y.plan) y.next in
       subst (λ (y : Unfinished). P e y) tt-is (subst (λ (x : ProcEnd Proc). P x (get_or unfinished p t)) ee (k.each p e t lt))
 
   pub parts_of : (p : ℕ) → p < c → HasParts I n H E unfinished p
@@ -83,7 +83,7 @@ module _ (I : Image) (c n : ℕ) (first : Contents) (H : List Cycle) (E : List (
   placed_at p e is =
       let lt : p < c = omega (arith, k.count, slice_get_within E p e is) in
       let t = item unfinished p (omega (arith, k.count_unfinished)) in
-      placed I n H p e t.0.answers.items (entries_left p t.0.plan) t.0.next (each_at p e t.0 lt (get_or_from_slice_get E p e e is) t.1)
+      placed I n H p e t.0 (entries_left p t.0.plan) t.0.next (each_at p e t.0 lt (get_or_from_slice_get E p e e is) t.1)
 
   pub kept_machine : IsMachine (record { image = I; cpus = c; budget = n; log = record { first = first; cycles = H }; ends = E })
   kept_machine = record {
@@ -96,13 +96,13 @@ module _ (I : Image) (c n : ℕ) (first : Contents) (H : List Cycle) (E : List (
 
   -- ---- which processors are passed over
 
-  pub waits_at : (p : ℕ) (e : ProcEnd Proc) (t : Unfinished) (a : Ask) → p < c → get_or E p e ≡ e → get_or unfinished p t ≡ t → t.next ≡ Some a → Waits n (plan_of I p) (start_of I p) (cycles_of p H) e t.answers.items (entries_left p t.plan) a
+  pub waits_at : (p : ℕ) (e : ProcEnd Proc) (t : Unfinished) (a : Ask) → p < c → get_or E p e ≡ e → get_or unfinished p t ≡ t → t.next ≡ Some a → Waits n (plan_of I p) (start_of I p) (cycles_of p H) e t (entries_left p t.plan) a
   waits_at p e t a lt e-is t-is next =
-      let h : EndsOrWaits n (plan_of I p) (start_of I p) (cycles_of p H) e t.answers.items (entries_left p t.plan) t.next = each_at p e t lt e-is t-is in
-      rw next at h
+      let h : EndsOrWaits n (plan_of I p) (start_of I p) (cycles_of p H) e t (entries_left p t.plan) t.next = each_at p e t lt e-is t-is in
+      subst (λ (o : Option Ask). EndsOrWaits n (plan_of I p) (start_of I p) (cycles_of p H) e t (entries_left p t.plan) o) next h
 
   -- the same by what was read of the state and, twice, of the unfinished step
-  pub waits_on : (p : ℕ) (x y : Unfinished) (e : ProcEnd Proc) (a : Ask) → p < c → x ≡ get_or unfinished p x → y ≡ get_or unfinished p y → e ≡ get_or E p e → x.next ≡ Some a → Waits n (plan_of I p) (start_of I p) (cycles_of p H) e y.answers.items (entries_left p y.plan) a
+  pub waits_on : (p : ℕ) (x y : Unfinished) (e : ProcEnd Proc) (a : Ask) → p < c → x ≡ get_or unfinished p x → y ≡ get_or unfinished p y → e ≡ get_or E p e → x.next ≡ Some a → Waits n (plan_of I p) (start_of I p) (cycles_of p H) e y (entries_left p y.plan) a
   waits_on p x y e a lt x-is y-is e-is next =
       let same : x ≡ y = read_twice unfinished p x y (omega (arith, k.count_unfinished)) x-is y-is in
       waits_at p e y a lt (sym e-is) (sym y-is) (ap (λ (t : Unfinished). t.next) (sym same) ∙ next)
@@ -110,19 +110,19 @@ module _ (I : Image) (c n : ℕ) (first : Contents) (H : List Cycle) (E : List (
   pub finished_at : (p : ℕ) (t : Unfinished) → p < c → get_or unfinished p t ≡ t → t.next ≡ None → HasFinished I n H p
   finished_at p t lt t-is next =
       let e = item E p (omega (arith, k.count)) in
-      let h : EndsOrWaits n (plan_of I p) (start_of I p) (cycles_of p H) e.0 t.answers.items (entries_left p t.plan) t.next = each_at p e.0 t lt e.1 t-is in
+      let h : EndsOrWaits n (plan_of I p) (start_of I p) (cycles_of p H) e.0 t (entries_left p t.plan) t.next = each_at p e.0 t lt e.1 t-is in
       (e.0, (rw next at h))
 
-  joined_at : (q : ℕ) (e : ProcEnd Proc) (answers : List ℕ) (left : Plan) (next : Option Ask) → q < c → EndsOrWaits n (plan_of I q) (start_of I q) (cycles_of q H) e answers left next → is_joined next ≡ true → IsAmidGroup I c n H q
-  joined_at q e answers left None lt h j = absurd (let d : false ≡ true = j in cc)
-  joined_at q e answers left (Some a) lt h j = (lt, (a, (e, waits_as I n H q e answers left a h), j))
+  joined_at : (q : ℕ) (e : ProcEnd Proc) (t : Unfinished) (left : Plan) (next : Option Ask) → q < c → EndsOrWaits n (plan_of I q) (start_of I q) (cycles_of q H) e t left next → is_joined next ≡ true → IsAmidGroup I c n H q
+  joined_at q e t left None lt h j = absurd (let d : false ≡ true = j in cc)
+  joined_at q e t left (Some a) lt h j = (lt, (h.wanted, (e, waits_as I n H q e t left a h), sym h.same.joined ∙ j))
 
   -- the processor that is named is amid a locked group
   pub amid_of_name : (q : ℕ) → midgroup ≡ Some q → IsAmidGroup I c n H q
   amid_of_name q is =
       let s = parts_of q (k.amid.below q is) in
       let j : is_joined s.step.next ≡ true = subst (λ (y : Unfinished). is_joined y.next ≡ true) s.step_is (k.amid.joined q s.step is) in
-      joined_at q s.state s.step.answers.items (entries_left q s.step.plan) s.step.next (k.amid.below q is) s.each j
+      joined_at q s.state s.step (entries_left q s.step.plan) s.step.next (k.amid.below q is) s.each j
 
   pub held_up : (p : ℕ) → is_another midgroup p ≡ true → IsPassedOver I c n H p
   held_up p h = inr (go midgroup refl h)
@@ -132,12 +132,12 @@ module _ (I : Image) (c n : ℕ) (first : Contents) (H : List Cycle) (E : List (
       go (Some q) is h = (q, (λ e. grind (arith, h, e)), amid_of_name q is)
 
   -- a processor whose next ask is joined is the one that is named
-  named_at : (q : ℕ) (e2 : ProcEnd Proc) (b : Ask) (e : ProcEnd Proc) (t : Unfinished) (next : Option Ask) → q < c → get_or unfinished q t ≡ t → t.next ≡ next → EndsOrWaits n (plan_of I q) (start_of I q) (cycles_of q H) e t.answers.items (entries_left q t.plan) next → WaitsAs I n H q e2 b → b.joined ≡ true → midgroup ≡ Some q
+  named_at : (q : ℕ) (e2 : ProcEnd Proc) (b : Ask) (e : ProcEnd Proc) (t : Unfinished) (next : Option Ask) → q < c → get_or unfinished q t ≡ t → t.next ≡ next → EndsOrWaits n (plan_of I q) (start_of I q) (cycles_of q H) e t (entries_left q t.plan) next → WaitsAs I n H q e2 b → b.joined ≡ true → midgroup ≡ Some q
   named_at q e2 b e t None lt t-is is h w j = absurd (amid_not_finished e2.steps n (plan_of I q) (start_of I q) e2.after (cycles_of q H) b e w.fewer w.amid h)
   named_at q e2 b e t (Some a) lt t-is is h w j =
-      let v = waits_as I n H q e t.answers.items (entries_left q t.plan) a h in
-      let same : a ≡ b = amid_same e.steps e2.steps (plan_of I q) 0 (start_of I q) e.after e2.after (cycles_of q H) a b v.amid w.amid in
-      let joined : is_joined t.next ≡ true = rw (is, same) j in
+      let v = waits_as I n H q e t (entries_left q t.plan) a h in
+      let same : h.wanted ≡ b = amid_same e.steps e2.steps (plan_of I q) 0 (start_of I q) e.after e2.after (cycles_of q H) h.wanted b v.amid w.amid in
+      let joined : is_joined t.next ≡ true = rw is (h.same.joined ∙ ap (λ (x : Ask). x.joined) same ∙ j) in
       k.amid.alone q t lt (subst (λ (y : Unfinished). is_joined y.next ≡ true) (sym t-is) joined)
 
   pub name_of_amid : (q : ℕ) → IsAmidGroup I c n H q → midgroup ≡ Some q
@@ -148,8 +148,9 @@ module _ (I : Image) (c n : ℕ) (first : Contents) (H : List Cycle) (E : List (
   pub not_passed : (p : ℕ) (t : Unfinished) (a : Ask) → p < c → is_another midgroup p ≡ false → get_or unfinished p t ≡ t → t.next ≡ Some a → IsPassedOver I c n H p → ⊥
   not_passed p t a lt alone t-is next (inl f) =
       let e = item E p (omega (arith, k.count)) in
-      let w = waits_as I n H p e.0 t.answers.items (entries_left p t.plan) a (waits_at p e.0 t a lt e.1 t-is next) in
-      amid_not_finished e.0.steps n (plan_of I p) (start_of I p) e.0.after (cycles_of p H) a f.0 w.fewer w.amid f.1
+      let h = waits_at p e.0 t a lt e.1 t-is next in
+      let w = waits_as I n H p e.0 t (entries_left p t.plan) a h in
+      amid_not_finished e.0.steps n (plan_of I p) (start_of I p) e.0.after (cycles_of p H) h.wanted f.0 w.fewer w.amid f.1
   not_passed p t a lt alone t-is next (inr h) =
       let named : midgroup ≡ Some h.0 = name_of_amid h.0 h.2 in
       let b : is_another (Some h.0) p ≡ false = rw named at alone in

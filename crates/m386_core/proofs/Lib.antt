@@ -1,4 +1,6 @@
 pub mod Beginning
+pub mod Foreseeing
+pub mod Fronts
 pub mod Groups
 pub mod Growing
 pub mod InOrders

@@ -16,7 +16,7 @@ use Rattle.m386_core.specs.Unfinished.{EndsOrWaits, is_joined}
 -- the processors below k are where their states and unfinished steps say
 abbrev pub AllEndOrWait : Image → ℕ → List Cycle → List (ProcEnd Proc) → List Unfinished → ℕ → Type 0
 AllEndOrWait I n H E unfinished k = (p : ℕ) (e : ProcEnd Proc) (t : Unfinished) → p < k
-    → EndsOrWaits n (plan_of I p) (start_of I p) (cycles_of p H) (slice_index_or E p e) (slice_index_or unfinished p t).answers.items (entries_left p (slice_index_or unfinished p t).plan) (slice_index_or unfinished p t).next
+    → EndsOrWaits n (plan_of I p) (start_of I p) (cycles_of p H) (slice_index_or E p e) (slice_index_or unfinished p t) (entries_left p (slice_index_or unfinished p t).plan) (slice_index_or unfinished p t).next
 
 -- another processor than this one is named
 abbrev pub is_another : Option ℕ → ℕ → Bool

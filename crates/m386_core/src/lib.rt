@@ -1,6 +1,7 @@
 //! Several processors on one memory, one cycle at a time, in a given order.
 #![tactic(auto)]
 
+mod ahead;
 pub mod laws;
 pub mod machine;
 pub mod order;

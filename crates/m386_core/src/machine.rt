@@ -9,8 +9,7 @@ ghost use Rattle.m386_core.specs.declared.turn.Turn.TheVariants as turns;
 
 use crate::plans::PlanLeft;
 use crate::turn::Turn;
-use crate::unfinished::{Unfinished, settle};
-use arrayvec::ArrayVec;
+use crate::unfinished::Unfinished;
 use m386_base::fault::NoMemory;
 use m386_base::list::List;
 use m386_image::image::Image;
@@ -84,14 +83,11 @@ impl<'a> Machine<'a> {
                 after: start(image, cpu),
                 steps: 0,
             };
-            let mut plan = PlanLeft::of(image.plan.as_slice(), cpu);
-            let next = settle(&mut end, &mut plan, cpu, steps);
+            let plan = PlanLeft::of(image.plan.as_slice(), cpu);
+            let mut first = Unfinished::new(plan, &end.after);
+            first.settle(&mut end, cpu, steps, log.store());
             ends.push(end)?;
-            unfinished.push(Unfinished {
-                plan,
-                answers: ArrayVec::new(),
-                next,
-            })?;
+            unfinished.push(first)?;
         }
         Ok(Machine {
             image,
@@ -132,7 +128,7 @@ impl<'a> Machine<'a> {
     /// exactly where it has finished, or another is amid a locked group. Where there is no memory to keep the cycle, nothing
     /// has changed.
     ///
-    /// The unfinished step is replayed over what its cycles were answered: a cycle costs as much as the step up to it.
+    /// The unfinished step was run ahead: a cycle costs as much as another, unless what it read isn't what was foreseen.
     pub fn next(&mut self, cpu: u8) -> Result<Turn, NoMemory>
         requires { cpu < self.old.cpus }
         ensures passed { (result ≡ Ok turns.PassedOver) ↔ PassesOver self.old cpu }
@@ -148,7 +144,13 @@ impl<'a> Machine<'a> {
             return Ok(Turn::PassedOver);
         };
         let value = self.log.put(cpu, ask)?;
-        self.unfinished[at].hear(&mut self.ends[at], cpu, self.budget, value);
+        self.unfinished[at].hear(
+            &mut self.ends[at],
+            cpu,
+            self.budget,
+            value,
+            self.log.store(),
+        );
         self.midgroup = self.unfinished[at].midgroup(cpu);
         Ok(Turn::Made)
     }

@@ -1,6 +1,5 @@
 use Rattle.std.proofs.Common.{◌≡◌, arith, [], None}
 use Rattle.m386_step.specs.Run.{start_of, plan_of}
-use Rattle.m386_core.specs.declared.unfinished.Unfinished.{Unfinished}
 use Rattle.m386_core.specs.Plans.{entries_left}
 use Rattle.m386_core.specs.Unfinished.{StepsLeaving, EndsOrWaits}
 use Rattle.m386_core.proofs.Beginning.{kept_first, begun_more}
@@ -12,11 +11,10 @@ pub loop-cpu-preserved : goal.loop-cpu-preserved
 loop-cpu-preserved c =
     let q = plan_of c.args.image.now c.loop-cpu.cpu in
     let s = start_of c.args.image.now c.loop-cpu.cpu in
-    let t : Unfinished = record { plan = c.settle-next.new.plan; answers = c.new.result; next = c.settle-next.result } in
-    let none : StepsLeaving 0 q 0 s [] c.start.result (entries_left c.loop-cpu.cpu c.of-plan.result) = rw (c.start.ensures, c.of-plan.ensures, c.as_slice.ensures) (leaves_all q 0 s) in
-    let new : EndsOrWaits c.args.steps q s [] c.settle-next.new.end c.new.result.items (entries_left c.loop-cpu.cpu c.settle-next.new.plan) c.settle-next.result = rw c.new.ensures (c.settle-next.ensures.stands q s [] none) in
+    let none : StepsLeaving 0 q 0 s [] c.start.result (entries_left c.loop-cpu.cpu c.new-first.result.plan) = rw (c.start.ensures, c.new-first.ensures.plan, c.of-plan.ensures, c.as_slice.ensures) (leaves_all q 0 s) in
+    let new : EndsOrWaits c.args.steps q s [] c.settle.new.end c.settle.new.self (entries_left c.loop-cpu.cpu c.settle.new.self.plan) c.settle.new.self.next = c.settle.ensures.stands q s [] none in
     rw (c.in_ok-push.ensures.items, c.in_ok-push-2.ensures.items) (
-    begun_more c.args.image.now c.args.steps c.loop-cpu.ends.items c.loop-cpu.unfinished.items c.loop-cpu.cpu c.settle-next.new.end t c.loop-cpu.invariant new c.settle-next.ensures.opens)
+    begun_more c.args.image.now c.args.steps c.loop-cpu.ends.items c.loop-cpu.unfinished.items c.loop-cpu.cpu c.settle.new.end c.settle.new.self c.loop-cpu.invariant new c.settle.ensures.opens)
 
 pub invariant_of-result : goal.invariant_of-result
 invariant_of-result c =

@@ -1,5 +1,6 @@
-use Rattle.std.proofs.Common.{◌≡◌, ◌<◌, ◌++◌, ◌∷◌, [], refl, sym, ◌∙◌, arith, true, false, set, inl}
+use Rattle.std.proofs.Common.{◌≡◌, ◌<◌, ◌++◌, ◌∷◌, [], refl, sym, ap, ◌∙◌, arith, true, false, set, inl}
 use Rattle.std.proofs.lemmas.List.{get_or-set_same}
+use Rattle.m386_base.specs.declared.ask.Ask.{Ask}
 use Rattle.m386_base.specs.declared.ask.Cycle.{Cycle}
 use Rattle.m386_base.specs.Bus.{cycle_of}
 use Rattle.m386_memory.specs.declared.ended.ProcEnd.{ProcEnd}
@@ -13,7 +14,7 @@ use Rattle.m386_memory.specs.History.{IsHistory, cycles_of}
 use Rattle.m386_core.proofs.Growing.{kept_more}
 use Rattle.m386_core.proofs.Keeping.{err_is_not_ok, waits_on, waits_as, lawful_at, kept_machine, held_up, finished_at, not_passed, joined_follows}
 use Rattle.m386_core.proofs.Orders.{goes_nowhere, goes_cycle}
-use Rattle.m386_core.proofs.UnfinishedSteps.{few_answers}
+use Rattle.m386_core.proofs.UnfinishedSteps.{few_answers, answers_ahead}
 use Rattle.m386_core.proofs.machine.Machine.next.Goals as goal
 
 pub returns-then-is_held_up-clause-passed : goal.returns-then-is_held_up-clause-passed
@@ -66,7 +67,7 @@ returns-in_err-value-clause-goes c =
     rw (← c.self.view_is, c.in_err-value.ensures.err) (goes_nowhere (record { image = i.image.now; cpus = i.cpus; budget = i.budget; log = i.log; ends = i.ends.items }) (kept_machine i.image.now i.cpus i.budget i.log.first i.log.cycles i.ends.items i.unfinished.items i.midgroup c.self.invariant))
 
 -- how the processor waited
-waited : (c : goal.After-index_mut-2) → Waits c.self.inside.budget (plan_of c.self.inside.image.now c.args.cpu) (start_of c.self.inside.image.now c.args.cpu) (cycles_of c.args.cpu c.self.inside.log.cycles) c.index_mut-2.result.now c.index_mut.result.now.answers.items (entries_left c.args.cpu c.index_mut.result.now.plan) c.in-Some.ask
+waited : (c : goal.After-store) → Waits c.self.inside.budget (plan_of c.self.inside.image.now c.args.cpu) (start_of c.self.inside.image.now c.args.cpu) (cycles_of c.args.cpu c.self.inside.log.cycles) c.index_mut-2.result.now c.index_mut.result.now (entries_left c.args.cpu c.index_mut.result.now.plan) c.in-Some.ask
 waited c =
     let i = c.self.inside in
     let below : c.args.cpu < i.cpus = rw (← c.self.view_is) at c.requires in
@@ -75,7 +76,12 @@ waited c =
 pub hear-requires-clause-room : goal.hear-requires-clause-room
 hear-requires-clause-room c =
     let i = c.self.inside in
-    few_answers i.budget (plan_of i.image.now c.args.cpu) (start_of i.image.now c.args.cpu) (cycles_of c.args.cpu i.log.cycles) c.index_mut-2.result.now c.index_mut.result.now.answers.items (entries_left c.args.cpu c.index_mut.result.now.plan) c.in-Some.ask (waited c)
+    few_answers i.budget (plan_of i.image.now c.args.cpu) (start_of i.image.now c.args.cpu) (cycles_of c.args.cpu i.log.cycles) c.index_mut-2.result.now c.index_mut.result.now (entries_left c.args.cpu c.index_mut.result.now.plan) c.in-Some.ask (waited c)
+
+pub hear-requires-clause-ahead : goal.hear-requires-clause-ahead
+hear-requires-clause-ahead c =
+    let i = c.self.inside in
+    answers_ahead i.budget (plan_of i.image.now c.args.cpu) (start_of i.image.now c.args.cpu) (cycles_of c.args.cpu i.log.cycles) c.index_mut-2.result.now c.index_mut.result.now (entries_left c.args.cpu c.index_mut.result.now.plan) c.in-Some.ask (waited c)
 
 pub hear-requires-clause-fewer : goal.hear-requires-clause-fewer
 hear-requires-clause-fewer c = (waited c).fewer
@@ -114,10 +120,10 @@ returns-clause-made c =
     let waited = waits_on i.image.now i.cpus i.budget i.log.first i.log.cycles i.ends.items i.unfinished.items i.midgroup c.self.invariant c.args.cpu c.index.result.now c.index_mut.result.now e c.in-Some.ask below c.index.ensures c.index_mut.ensures.value c.index_mut-2.ensures.value c.in-Some.is in
     λ _. rw (← c.self.view_is, c.in_ok-value.ensures.made) (record {
       same = record { image = refl; cpus = refl; budget = refl; first = refl };
-      asked = c.in-Some.ask;
+      asked = waited.wanted;
       value = c.in_ok-value.value;
-      awaited = (e, waits_as i.image.now i.budget i.log.cycles c.args.cpu e c.index_mut.result.now.answers.items (entries_left c.args.cpu c.index_mut.result.now.plan) c.in-Some.ask waited);
-      cycles = refl;
+      awaited = (e, waits_as i.image.now i.budget i.log.cycles c.args.cpu e c.index_mut.result.now (entries_left c.args.cpu c.index_mut.result.now.plan) c.in-Some.ask waited);
+      cycles = ap (λ (y : Ask). i.log.cycles ++ record { cpu = c.args.cpu; ask = y } ∷ []) (waited.same.cycles c.in_ok-value.value);
     })
 
 pub returns-clause-goes : goal.returns-clause-goes
