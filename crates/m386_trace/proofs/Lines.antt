@@ -24,6 +24,11 @@ pushed {first} {fields} {line} more new before step = record {
 pub ended : {first : List ℕ} {fields : List (List ℕ)} {line : List ℕ} (new : List ℕ) → HasFields first fields line → new ≡ line ++ codes "\n" → new ≡ line_text first fields
 ended new before step = step ∙ ap (λ (text : List ℕ). text ++ codes "\n") before.text
 
+-- the last fields, with the line feed behind them
+pub ended_by : {first : List ℕ} {fields : List (List ℕ)} {line : List ℕ} (more : List (List ℕ)) (new : List ℕ) → HasFields first fields line → new ≡ line ++ (spaced more ++ codes "\n") → new ≡ line_text first (fields ++ more)
+ended_by {first} {fields} {line} more new before step =
+    ended new (pushed more (line ++ spaced more) before refl) (step ∙ sym (append_assoc line (spaced more) (codes "\n")))
+
 -- two fields, one after the other
 pub pushed_two : (line mid new first second : List ℕ) → mid ≡ line ++ spaced (first ∷ []) → new ≡ mid ++ spaced (second ∷ []) → new ≡ line ++ spaced (first ∷ second ∷ [])
 pushed_two line mid new first second before step =
@@ -32,3 +37,9 @@ pushed_two line mid new first second before step =
 -- a line with no more fields than before
 pub unchanged : (line : List ℕ) → HasFields line [] line
 unchanged line = line_begins line line refl
+
+-- a field behind its space
+pub spaced_one : (line mid new field : List ℕ) → mid ≡ line ++ codes " " → new ≡ mid ++ field → new ≡ line ++ spaced (field ∷ [])
+unfolding spaced
+spaced_one line mid new field before step =
+    step ∙ ap (λ (text : List ℕ). text ++ field) before ∙ append_assoc line (codes " ") field ∙ ap (λ (text : List ℕ). line ++ (codes " " ++ text)) (sym (append-nil field))

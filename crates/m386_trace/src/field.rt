@@ -2,7 +2,7 @@
 ghost use Rattle.std.specs.Prelude.{◌≡◌, ◌+◌, ◌*◌, ◌<◌, ◌≤◌, ◌++◌, ◌∷◌, [], length, decimal, IsAscii};
 ghost use Rattle.arrayvec.specs.ArrayString.{array_string_len};
 ghost use Rattle.hex.specs.Hex.{encode_lower};
-ghost use Rattle.m386_trace.specs.Line.{spaced, hex1, hex2, hex4, hex8, two_digits};
+ghost use Rattle.m386_trace.specs.Line.{spaced, hex1, hex2, hex4, hex8};
 
 use arrayvec::ArrayString;
 use itoa::Buffer;
@@ -20,14 +20,14 @@ pub(crate) fn push_word<const CAP: usize>(line: &mut ArrayString<CAP>, word: &st
 }
 
 /// Appends bytes that are ASCII.
-fn push_ascii<const CAP: usize>(line: &mut ArrayString<CAP>, bytes: &[u8])
+pub(crate) fn push_ascii<const CAP: usize>(line: &mut ArrayString<CAP>, bytes: &[u8])
     requires ascii { IsAscii bytes.now }
-    requires room { array_string_len line.old + 1 + length bytes.now ≤ CAP }
-    ensures bytes { line.new.bytes ≡ line.old.bytes ++ spaced (bytes.now ∷ []) }
-    ensures len { array_string_len line.new ≡ array_string_len line.old + 1 + length bytes.now }
+    requires room { array_string_len line.old + length bytes.now ≤ CAP }
+    ensures bytes { line.new.bytes ≡ line.old.bytes ++ bytes.now }
+    ensures len { array_string_len line.new ≡ array_string_len line.old + length bytes.now }
 {
     match str::from_utf8(bytes) {
-        Ok(word) => push_word(line, word),
+        Ok(text) => line.push_str(text),
         Err(_) => unreachable!(),
     }
 }
@@ -40,7 +40,10 @@ fn push_bytes<const CAP: usize>(line: &mut ArrayString<CAP>, bytes: &[u8], digit
     ensures len { array_string_len line.new ≡ array_string_len line.old + 1 + 2 * length bytes.now }
 {
     match hex::encode_to_slice(bytes, digits) {
-        Ok(()) => push_ascii(line, digits),
+        Ok(()) => {
+            line.push_str(" ");
+            push_ascii(line, digits);
+        }
         Err(_) => unreachable!(),
     }
 }
@@ -78,26 +81,25 @@ pub(crate) fn push_hex2<const CAP: usize>(line: &mut ArrayString<CAP>, number: u
 /// The hexadecimal digits, in lower case.
 const DIGITS: [u8; 16] = *b"0123456789abcdef";
 
-/// Appends a number of 4 bits in one hexadecimal digit.
+/// A number of 4 bits as one hexadecimal digit.
 #[tactic(auto, unfolding(crate::specs::Line::hex1))]
-pub(crate) fn push_hex1<const CAP: usize>(line: &mut ArrayString<CAP>, number: u8)
-    requires digit { number < 16 }
-    requires room { array_string_len line.old + 2 ≤ CAP }
-    ensures bytes { line.new.bytes ≡ line.old.bytes ++ spaced (hex1 number ∷ []) }
-    ensures len { array_string_len line.new ≡ array_string_len line.old + 2 }
+pub(crate) fn digit_of(number: u8) -> u8
+    requires { number < 16 }
+    ensures { result ∷ [] ≡ hex1 number }
 {
-    push_ascii(line, &[DIGITS[number as usize]]);
+    DIGITS[number as usize]
 }
 
-/// Appends a number below 100 in two decimal digits.
-#[tactic(auto, unfolding(crate::specs::Line::two_digits))]
-pub(crate) fn push_two_digits<const CAP: usize>(line: &mut ArrayString<CAP>, number: u8)
-    requires digits { number < 100 }
-    requires room { array_string_len line.old + 3 ≤ CAP }
-    ensures bytes { line.new.bytes ≡ line.old.bytes ++ spaced (two_digits number ∷ []) }
-    ensures len { array_string_len line.new ≡ array_string_len line.old + 3 }
+/// A number of 32 bits as eight hexadecimal digits.
+#[tactic(auto, unfolding(crate::specs::Line::hex8))]
+pub(crate) fn digits_of(number: u32) -> [u8; 8]
+    ensures { result ≡ hex8 number }
 {
-    push_ascii(line, &[b'0' + number / 10, b'0' + number % 10]);
+    let mut digits = [0; 8];
+    match hex::encode_to_slice(number.to_be_bytes().as_slice(), &mut digits) {
+        Ok(()) => digits,
+        Err(_) => unreachable!(),
+    }
 }
 
 /// Appends a number in decimal.

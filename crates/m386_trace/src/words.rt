@@ -1,5 +1,6 @@
 //! The words of the report.
-ghost use Rattle.std.specs.Prelude.{◌≡◌, ◌≤◌, length};
+ghost use Rattle.std.specs.Prelude.{◌≡◌, ◌<◌, ◌≤◌, ◌++◌, ◌∷◌, [], length, codes, decimal};
+ghost use Rattle.m386_trace.specs.Line.{spaced};
 ghost use Rattle.m386_trace.specs.Words.{role_word, space_word, write_word, joined_word, mode_word};
 
 use m386_base::ask::{Role, Space};
@@ -39,31 +40,43 @@ pub(crate) fn role_word(role: Role) -> &'static str
     }
 }
 
-/// The letter for a space.
-pub(crate) fn space_word(space: Space) -> &'static str
-    ensures word { result.now ≡ space_word space }
-    ensures short { length result.now ≡ 1 }
+/// The letters for the space of a cycle and for a write or a read, and the sign for one that is joined or isn't, each behind a space.
+#[tactic(auto, unfolding(crate::specs::Line::spaced))]
+pub(crate) fn access_words(space: Space, write: bool, joined: bool) -> &'static str
+    ensures words { result.now ≡ spaced (space_word space ∷ write_word write ∷ joined_word joined ∷ []) }
+    ensures short { length result.now ≡ 6 }
 {
-    match space {
-        Space::Memory => "m",
-        Space::Port => "p",
+    match (space, write, joined) {
+        (Space::Memory, false, false) => " m r .",
+        (Space::Memory, false, true) => " m r +",
+        (Space::Memory, true, false) => " m w .",
+        (Space::Memory, true, true) => " m w +",
+        (Space::Port, false, false) => " p r .",
+        (Space::Port, false, true) => " p r +",
+        (Space::Port, true, false) => " p w .",
+        (Space::Port, true, true) => " p w +",
     }
 }
 
-/// The letter for a write or a read.
-pub(crate) fn write_word(write: bool) -> &'static str
-    ensures word { result.now ≡ write_word write }
-    ensures short { length result.now ≡ 1 }
+/// The beginning of the line of a cycle of this processor.
+#[tactic(auto, using(std::proofs::lemmas::Fmt::decimal_digit), unfolding(crate::specs::Line::spaced))]
+pub(crate) fn cpu_words(cpu: u8) -> &'static str
+    requires { cpu < 10 }
+    ensures words { result.now ≡ codes "c" ++ spaced (decimal cpu ∷ []) }
+    ensures short { length result.now ≡ 3 }
 {
-    if write { "w" } else { "r" }
-}
-
-/// The sign for a cycle that is joined to the one before it, or isn't.
-pub(crate) fn joined_word(joined: bool) -> &'static str
-    ensures word { result.now ≡ joined_word joined }
-    ensures short { length result.now ≡ 1 }
-{
-    if joined { "+" } else { "." }
+    match cpu {
+        0 => "c 0",
+        1 => "c 1",
+        2 => "c 2",
+        3 => "c 3",
+        4 => "c 4",
+        5 => "c 5",
+        6 => "c 6",
+        7 => "c 7",
+        8 => "c 8",
+        _ => "c 9",
+    }
 }
 
 /// The word for a mode.
