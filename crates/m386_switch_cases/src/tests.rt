@@ -14,11 +14,14 @@ ghost use Rattle.std.specs.Prelude.{◌≡◌, false};
 use m386_base::ask::{Ask, Role};
 use m386_base::bus::Bus;
 use m386_base::desc::Desc;
+use m386_base::fault::Stop;
 use m386_base::kind::SwitchKind;
 use m386_base::number::Flags;
 use m386_memory::fixed::FixedBus;
 use m386_state::proc::{Proc, start_bare, unusable};
 use m386_state::segment::{Seg, TableReg};
+use m386_switch::outcome::Outcome;
+use m386_switch::switch::switch;
 use std::process::Abort;
 
 /// Base, limit, access byte (P in bit 7, DPL in bits 5 and 6, S in bit 4, the type below) and flags (G in bit 3, D in bit 2).
@@ -54,9 +57,6 @@ const FS_AT: u8 = 8;
 const ES_AT: u8 = 11;
 
 const GS_AT: u8 = 12;
-
-/// Each segment register's descriptor, in the order ES, CS, SS, DS, FS, GS.
-const AT: [u8; 6] = [ES_AT, CS_AT, SS_AT, DS_AT, FS_AT, GS_AT];
 
 /// No accessed bit is set. The new task has level 2.
 const DESCRIPTORS: [Line; 13] = lines![
@@ -372,12 +372,12 @@ fn entered(w: &World, kind: SwitchKind, usable: u8) -> Proc {
     p.eip = f[8];
     p.eflags = flags_of(kind, f[9]);
     p.segs = [
-        register(w, AT[0], f[18], usable & 1 != 0),
-        register(w, AT[1], f[19], usable & 2 != 0),
-        register(w, AT[2], f[20], usable & 4 != 0),
-        register(w, AT[3], f[21], usable & 8 != 0),
-        register(w, AT[4], f[22], usable & 0x10 != 0),
-        register(w, AT[5], f[23], usable & 0x20 != 0),
+        register(w, ES_AT, f[18], usable & 1 != 0),
+        register(w, CS_AT, f[19], usable & 2 != 0),
+        register(w, SS_AT, f[20], usable & 4 != 0),
+        register(w, DS_AT, f[21], usable & 8 != 0),
+        register(w, FS_AT, f[22], usable & 0x10 != 0),
+        register(w, GS_AT, f[23], usable & 0x20 != 0),
     ];
     p.ldtr = register(w, LDT_AT, f[24], usable & LDTR_BIT != 0);
     p.tr = register(w, (w.selector / 8 % 13) as u8, u32::from(w.selector), true);
@@ -412,6 +412,11 @@ fn letter(ask: &Ask) -> u8 {
     }
 }
 
+/// What is looked at of a cycle: the letter of its sort, its part, address, enables and value.
+fn seen(ask: &Ask) -> (u8, u8, u32, u8, u32) {
+    (letter(ask), ask.part, ask.addr, ask.enables, ask.value)
+}
+
 /// The cycles from the descriptor of the TSS to the last field, of tasks whose segments are aligned.
 fn head(kind: SwitchKind) -> &'static str {
     match kind {
@@ -437,4 +442,48 @@ fn makes(rt: &impl Abort, name: &str, way: Way, bus: &FixedBus<0x400>, head: &st
     for (at, (cycle, want)) in cycles.iter().zip(letters).enumerate() {
         assert_eq!(rt; letter(&cycle.ask), *want, "{name} {way:?} {at}");
     }
+}
+
+/// What the caller names: the back link alone says where an IRET goes.
+fn named(w: &World, kind: SwitchKind) -> u16 {
+    match kind {
+        SwitchKind::Iret => 0x4b,
+        SwitchKind::Jmp | SwitchKind::Call | SwitchKind::Event | SwitchKind::Start => w.selector,
+    }
+}
+
+/// What a switch came to: its answer, the state behind it, and the bus that it was made on.
+#[derive(Drop)]
+struct Ran {
+    found: Result<Outcome, Stop>,
+    after: Proc,
+    bus: FixedBus<0x400>,
+}
+
+/// A switch of this way from a world.
+fn switched(w: &World, way: Way) -> Ran {
+    let mut after = w.before;
+    let mut bus = bus_of(w);
+    let selector = named(w, way.kind);
+    let found = switch(
+        &mut after, &mut bus, way.kind, selector, way.direct, way.ext,
+    );
+    Ran { found, after, bus }
+}
+
+/// A switch from a world comes to this outcome and state, by the cycles of a head and a tail. The answer is the bus.
+fn comes_to(
+    rt: &impl Abort,
+    name: &str,
+    w: &World,
+    way: Way,
+    outcome: Outcome,
+    after: &Proc,
+    letters: (&'static str, &'static str),
+) -> FixedBus<0x400> {
+    let ran = switched(w, way);
+    assert_eq!(rt; ran.found, Ok(outcome), "{name} {way:?}");
+    assert_eq!(rt; ran.after, *after, "{name} {way:?}");
+    makes(rt, name, way, &ran.bus, letters.0, letters.1);
+    ran.bus
 }

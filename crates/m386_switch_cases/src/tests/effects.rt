@@ -1,12 +1,10 @@
 //! The table of effects, line by line: busy bits, NT, the back link and TS, of switches that are whole and of those that fail in the
 //! new task.
-use super::rows::named;
-use super::{Change, GS_AT, LDT_AT, bus_of, changed, sound};
+use super::{Change, GS_AT, LDT_AT, Ran, Way, changed, sound, switched};
 use m386_base::ask::Role;
 use m386_base::kind::SwitchKind;
 use m386_memory::fixed::FixedBus;
 use m386_switch::outcome::Outcome;
-use m386_switch::switch::switch;
 
 /// What is written of the tasks' links and busy bits, and of the old flags.
 #[derive(Clone, Copy, Debug, PartialEq, Eq)]
@@ -110,6 +108,15 @@ const CHANGES: [Change; 4] = [
 /// CR0 before and after.
 const CONTROLS: [(u32, u32); 3] = [(1, 9), (7, 0xf), (9, 9)];
 
+/// A switch of this kind by itself.
+fn direct(kind: SwitchKind) -> Way {
+    Way {
+        kind,
+        direct: true,
+        ext: false,
+    }
+}
+
 #[test]
 fn each_kind_has_its_line_of_effects(rt: HostRuntime) {
     for (kind, incoming, outgoing, link, nt, saved) in EFFECTS {
@@ -120,9 +127,7 @@ fn each_kind_has_its_line_of_effects(rt: HostRuntime) {
                     Change::OldFlags(0xed7 + old as u32 % 2 * 0x4000),
                 );
                 let w = changed(&flags, Change::Field(9, 0x3302 + image as u32 % 2 * 0x4000));
-                let mut p = w.before;
-                let mut bus = bus_of(&w);
-                let found = switch(&mut p, &mut bus, kind, named(&w, kind), true, false);
+                let Ran { found, after, bus } = switched(&w, direct(kind));
                 let told = matches!(found, Ok(Outcome::Done | Outcome::New(_)));
                 assert!(rt; told, "{kind:?} {change:?}");
                 assert_eq!(rt; written(&bus, Effect::Incoming), once(incoming), "{kind:?}");
@@ -134,7 +139,7 @@ fn each_kind_has_its_line_of_effects(rt: HostRuntime) {
                     once(flags),
                     "{kind:?} {old}"
                 );
-                assert_eq!(rt; p.eflags.0, 0x3302 | nt[image % 2], "{kind:?} {image}");
+                assert_eq!(rt; after.eflags.0, 0x3302 | nt[image % 2], "{kind:?} {image}");
             }
         }
     }
@@ -145,13 +150,11 @@ fn ts_is_set_by_each_kind(rt: HostRuntime) {
     for (kind, _, _, _, _, _) in EFFECTS {
         for change in CHANGES {
             for (old, new) in CONTROLS {
-                let w = changed(&sound(kind), change);
-                let mut p = w.before;
-                p.cr0 = old;
-                let mut bus = bus_of(&w);
-                let found = switch(&mut p, &mut bus, kind, named(&w, kind), true, false);
+                let mut w = changed(&sound(kind), change);
+                w.before.cr0 = old;
+                let Ran { found, after, .. } = switched(&w, direct(kind));
                 assert!(rt; found.is_ok(), "{kind:?}");
-                assert_eq!(rt; p.cr0, new, "{kind:?} {change:?}");
+                assert_eq!(rt; after.cr0, new, "{kind:?} {change:?}");
             }
         }
     }

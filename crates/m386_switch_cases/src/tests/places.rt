@@ -3,12 +3,11 @@
 use super::Change::{
     Access, Base, Field, GdtBase, Nothing, OldBase, OldEip, OldRegister, Selector,
 };
-use super::rows::{End, end_of, fails, named, passes};
+use super::rows::{End, end_of, fails, passes};
 use super::{
     ALL, ALL_USABLE, DS_AT, LDT_AT, NEW_TSS, OLD_TSS, SS_AT, WAYS, Way, World, bus_of, changed,
-    desc_of, entered, flat, letter, makes, sound, with,
+    comes_to, desc_of, entered, flat, seen, sound, with,
 };
-use m386_base::ask::Ask;
 use m386_base::fault::Stop;
 use m386_base::kind::SwitchKind;
 use m386_memory::fixed::FixedBus;
@@ -21,7 +20,7 @@ use std::process::Abort;
 type Made = (usize, u8, u8, u32, u8, u32);
 
 /// A whole switch from one world comes to a state, by the cycles of a head and a tail, among them these.
-fn comes_to(
+fn goes(
     rt: &impl Abort,
     w: &World,
     way: Way,
@@ -29,13 +28,7 @@ fn comes_to(
     letters: (&'static str, &'static str),
     some: &[Made],
 ) {
-    let mut p = w.before;
-    let mut bus = bus_of(w);
-    let selector = named(w, way.kind);
-    let found = switch(&mut p, &mut bus, way.kind, selector, way.direct, way.ext);
-    assert_eq!(rt; found, Ok(Outcome::Done), "{way:?}");
-    assert_eq!(rt; p, *after, "{way:?}");
-    makes(rt, "a place", way, &bus, letters.0, letters.1);
+    let bus = comes_to(rt, "a place", w, way, Outcome::Done, after, letters);
     has(rt, &bus, some);
 }
 
@@ -46,11 +39,6 @@ fn has(rt: &impl Abort, bus: &FixedBus<0x400>, some: &[Made]) {
         let want = (sort, part, addr, enables, value);
         assert_eq!(rt; got.map(|a| seen(&a)), Some(want), "{at}");
     }
-}
-
-/// What is looked at of a cycle.
-fn seen(a: &Ask) -> (u8, u8, u32, u8, u32) {
-    (letter(a), a.part, a.addr, a.enables, a.value)
 }
 
 /// The cycles up to the last field with the old TSS at 201h and the new one at 283h.
@@ -96,7 +84,7 @@ fn segments_of_tasks_may_be_at_odd_addresses(rt: HostRuntime) {
             SwitchKind::Call => ODD.as_slice(),
             SwitchKind::Jmp | SwitchKind::Event | SwitchKind::Iret | SwitchKind::Start => &[],
         };
-        comes_to(&rt, &w, way, &after, (odd_head(way.kind), ALL), some);
+        goes(&rt, &w, way, &after, (odd_head(way.kind), ALL), some);
     }
 }
 
@@ -141,7 +129,7 @@ fn tables_may_be_at_odd_addresses(rt: HostRuntime) {
             SwitchKind::Jmp => ODD_LINES.as_slice(),
             SwitchKind::Call | SwitchKind::Event | SwitchKind::Iret | SwitchKind::Start => &[],
         };
-        comes_to(
+        goes(
             &rt,
             &w,
             way,
@@ -228,7 +216,7 @@ fn what_was_saved_is_loaded_from_a_segment_over_the_old_one(rt: HostRuntime) {
             passes(&rt, "a start", &w, way, ALL, ALL_USABLE);
         } else {
             let after = entered(&want, way.kind, ALL_USABLE);
-            comes_to(&rt, &w, way, &after, (super::head(way.kind), ALL), &[]);
+            goes(&rt, &w, way, &after, (super::head(way.kind), ALL), &[]);
         }
     }
 }
@@ -273,7 +261,7 @@ fn a_busy_task_is_its_own_target_for_iret_alone(rt: HostRuntime) {
                     (19, b'r', 0, 0x10c, 2, 0xeb00),
                     (20, b'R', 0, 0x10c, 2, 0xe900),
                 ];
-                comes_to(&rt, &w, way, &after, (super::head(way.kind), ALL), &some);
+                goes(&rt, &w, way, &after, (super::head(way.kind), ALL), &some);
             }
             SwitchKind::Jmp | SwitchKind::Call | SwitchKind::Event | SwitchKind::Start => {
                 fails(
@@ -315,7 +303,7 @@ fn a_task_that_isnt_marked_may_go_to_itself(rt: HostRuntime) {
         };
         let w = changed(&itself(kind), Access(OLD_TSS, 2));
         let after = back_in(&w, kind, 0x4ed7);
-        comes_to(&rt, &w, way, &after, (super::head(kind), ALL), &some);
+        goes(&rt, &w, way, &after, (super::head(kind), ALL), &some);
     }
 }
 
@@ -327,7 +315,7 @@ fn a_descriptor_is_read_anew_for_each_register(rt: HostRuntime) {
         let mut after = entered(&w, way.kind, ALL_USABLE);
         after.segs[3].desc = desc_of(&changed(&w, Access(SS_AT, 1)), SS_AT);
         let letters = (super::head(way.kind), "ghghGghGghlmLghGlmL");
-        comes_to(&rt, &w, way, &after, letters, &[]);
+        goes(&rt, &w, way, &after, letters, &[]);
     }
 }
 

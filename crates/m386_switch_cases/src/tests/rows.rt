@@ -2,13 +2,12 @@
 use super::Change::{Access, Field, Limit, NoTask, Selector};
 use super::{
     ALL, ALL_USABLE, CS_AT, Change, DS_AT, ES_AT, FS_AT, GS_AT, LDT_AT, NEW_TSS, SS_AT, WAYS, Way,
-    World, bus_of, changed, entered, head, makes, sound,
+    World, changed, comes_to, entered, head, sound,
 };
 use m386_base::fault::Fault;
 use m386_base::kind::SwitchKind;
 use m386_checks::facts::{Context, Fail};
 use m386_switch::outcome::Outcome;
-use m386_switch::switch::switch;
 use std::process::Abort;
 
 /// How a switch fails: the row and its segment register, the vector for JMP and CALL and that for the other kinds, the selector that
@@ -34,7 +33,7 @@ pub(super) type Case = (
 );
 
 /// Each row once, and rows 16 to 18 once for each segment register, in the order of the tests.
-pub(super) const CASES: [Case; 28] = [
+pub(super) static CASES: [Case; 28] = [
     ("no task", NoTask, (1, 0, 13, 13, 0), "", 0),
     (
         "a TSS outside the GDT",
@@ -280,52 +279,47 @@ fn head_to(row: u8, kind: SwitchKind) -> &'static str {
     }
 }
 
-/// What the caller names: the back link alone says where an IRET goes.
-pub(super) fn named(w: &World, kind: SwitchKind) -> u16 {
-    match kind {
-        SwitchKind::Iret => 0x4b,
-        SwitchKind::Jmp | SwitchKind::Call | SwitchKind::Event | SwitchKind::Start => w.selector,
-    }
-}
-
 /// A switch fails so: in the old task with nothing changed, or in the new one.
 pub(super) fn fails(rt: &impl Abort, name: &str, w: &World, way: Way, e: &End) {
-    let mut p = w.before;
-    let mut bus = bus_of(w);
-    let selector = named(w, way.kind);
-    let found = switch(&mut p, &mut bus, way.kind, selector, way.direct, way.ext);
     let fail = told(e, way);
     let (outcome, after) = if e.row < 8 {
         (Outcome::Old(fail), w.before)
     } else {
         (Outcome::New(fail), entered(w, way.kind, e.usable))
     };
-    assert_eq!(rt; found, Ok(outcome), "{name} {way:?}");
-    assert_eq!(rt; p, after, "{name} {way:?}");
-    makes(rt, name, way, &bus, head_to(e.row, way.kind), e.tail);
+    let letters = (head_to(e.row, way.kind), e.tail);
+    comes_to(rt, name, w, way, outcome, &after, letters);
 }
 
 /// A switch is whole, with these cycles behind the last field.
-pub(super) fn passes(rt: &impl Abort, name: &str, w: &World, way: Way, tail: &str, usable: u8) {
-    let mut p = w.before;
-    let mut bus = bus_of(w);
-    let selector = named(w, way.kind);
-    let found = switch(&mut p, &mut bus, way.kind, selector, way.direct, way.ext);
-    assert_eq!(rt; found, Ok(Outcome::Done), "{name} {way:?}");
-    assert_eq!(rt; p, entered(w, way.kind, usable), "{name} {way:?}");
-    makes(rt, name, way, &bus, head(way.kind), tail);
+pub(super) fn passes(
+    rt: &impl Abort,
+    name: &str,
+    w: &World,
+    way: Way,
+    tail: &'static str,
+    usable: u8,
+) {
+    let after = entered(w, way.kind, usable);
+    let letters = (head(way.kind), tail);
+    comes_to(rt, name, w, way, Outcome::Done, &after, letters);
+}
+
+/// A case ends so where its row is met, and else the switch is whole.
+pub(super) fn ends(rt: &impl Abort, name: &str, w: &World, way: Way, e: &End) {
+    if meets(e.row, way) {
+        fails(rt, name, w, way, e);
+    } else {
+        passes(rt, name, w, way, ALL, ALL_USABLE);
+    }
 }
 
 #[test]
 fn each_row_fails_alone_for_each_kind_that_meets_it(rt: HostRuntime) {
     for way in WAYS {
-        for (name, change, told, tail, usable) in CASES {
+        for (name, change, told, tail, usable) in CASES.iter().copied() {
             let w = changed(&sound(way.kind), change);
-            if meets(told.0, way) {
-                fails(&rt, name, &w, way, &end_of(told, tail, usable));
-            } else {
-                passes(&rt, name, &w, way, ALL, ALL_USABLE);
-            }
+            ends(&rt, name, &w, way, &end_of(told, tail, usable));
         }
     }
 }

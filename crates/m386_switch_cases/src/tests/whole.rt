@@ -1,13 +1,13 @@
 //! Whole switches of each kind, cycle by cycle.
-use super::rows::named;
-use super::{bus_of, sound};
+use super::{ALL, Way, comes_to, head, seen, sound};
 use m386_base::desc::Desc;
 use m386_base::kind::SwitchKind;
 use m386_base::number::Flags;
+use m386_memory::fixed::FixedBus;
 use m386_state::proc::Proc;
 use m386_state::segment::Seg;
 use m386_switch::outcome::Outcome;
-use m386_switch::switch::switch;
+use std::process::Abort;
 
 /// The letter of a cycle's sort, its part, address, enables and value.
 type Cycle = (u8, u8, u32, u8, u32);
@@ -18,55 +18,67 @@ macro_rules! cycles {
     };
 }
 
-/// The back link of the old task.
-const BACK: [Cycle; 1] = cycles![
-    b'b' 0 0x200 3 0x11;
-];
-
-/// The descriptor of a TSS that is available, read.
-const FREE: [Cycle; 2] = cycles![
+/// The descriptor of a TSS that is available, read and claimed by a JMP.
+const NAMED_BY_JMP: [Cycle; 3] = cycles![
     b't' 0 0x110 15 0x280_0067;
     b'u' 0 0x114 15 0xa900;
-];
-
-/// That of one that is busy.
-const BUSY: [Cycle; 2] = cycles![
-    b't' 0 0x110 15 0x280_0067;
-    b'u' 0 0x114 15 0xab00;
-];
-
-/// Its busy bit, set by a JMP.
-const CLAIM_JMP: [Cycle; 1] = cycles![
     b'J' 0 0x114 2 0xab00;
 ];
 
 /// The same by a CALL or an event.
-const CLAIM_CALL: [Cycle; 1] = cycles![
+const NAMED_BY_CALL: [Cycle; 3] = cycles![
+    b't' 0 0x110 15 0x280_0067;
+    b'u' 0 0x114 15 0xa900;
     b'C' 0 0x114 2 0xab00;
 ];
 
 /// The same by a start.
-const CLAIM_START: [Cycle; 1] = cycles![
+const NAMED_BY_START: [Cycle; 3] = cycles![
+    b't' 0 0x110 15 0x280_0067;
+    b'u' 0 0x114 15 0xa900;
     b'S' 0 0x114 2 0xab00;
 ];
 
-/// The old task's EIP.
-const SAVE_EIP: [Cycle; 1] = cycles![
-    b's' 8 0x220 15 0x101_0101;
+/// The back link of the old task, and the descriptor of a TSS that is busy.
+const NAMED_BY_IRET: [Cycle; 3] = cycles![
+    b'b' 0 0x200 3 0x11;
+    b't' 0 0x110 15 0x280_0067;
+    b'u' 0 0x114 15 0xab00;
 ];
 
-/// Its flags.
-const SAVE_FLAGS: [Cycle; 1] = cycles![
+/// The cycles that name the new task and claim it.
+fn naming(kind: SwitchKind) -> &'static [Cycle] {
+    match kind {
+        SwitchKind::Jmp => NAMED_BY_JMP.as_slice(),
+        SwitchKind::Call | SwitchKind::Event => NAMED_BY_CALL.as_slice(),
+        SwitchKind::Iret => NAMED_BY_IRET.as_slice(),
+        SwitchKind::Start => NAMED_BY_START.as_slice(),
+    }
+}
+
+/// The old task's EIP and flags.
+const SAVED: [Cycle; 2] = cycles![
+    b's' 8 0x220 15 0x101_0101;
     b's' 9 0x224 15 0x4ed7;
 ];
 
-/// Its flags as an IRET saves them, without NT.
-const SAVE_FLAGS_IRET: [Cycle; 1] = cycles![
+/// As an IRET saves them, without NT.
+const SAVED_BY_IRET: [Cycle; 2] = cycles![
+    b's' 8 0x220 15 0x101_0101;
     b's' 9 0x224 15 0xed7;
 ];
 
-/// Its registers.
-const SAVE_REST: [Cycle; 14] = cycles![
+/// The cycles that save EIP and the flags.
+fn saving(kind: SwitchKind) -> &'static [Cycle] {
+    match kind {
+        SwitchKind::Jmp | SwitchKind::Call | SwitchKind::Event => SAVED.as_slice(),
+        SwitchKind::Iret => SAVED_BY_IRET.as_slice(),
+        SwitchKind::Start => &[],
+    }
+}
+
+/// The old task's registers.
+const SAVED_REGISTERS: [Cycle; 14] = cycles![
     b's' 10 0x228 15 0xa000_0000;
     b's' 11 0x22c 15 0xa000_0001;
     b's' 12 0x230 15 0xa000_0002;
@@ -83,25 +95,45 @@ const SAVE_REST: [Cycle; 14] = cycles![
     b's' 23 0x25c 3 0x6663;
 ];
 
-/// The old task's selector, written as the back link.
-const LINK: [Cycle; 1] = cycles![
-    b'k' 0 0x280 3 0x9;
-];
+/// The cycles that save the registers.
+fn saving_registers(kind: SwitchKind) -> &'static [Cycle] {
+    match kind {
+        SwitchKind::Jmp | SwitchKind::Call | SwitchKind::Event | SwitchKind::Iret => {
+            SAVED_REGISTERS.as_slice()
+        }
+        SwitchKind::Start => &[],
+    }
+}
 
 /// The old busy bit, cleared by a JMP.
-const RELEASE_JMP: [Cycle; 2] = cycles![
+const RELEASED_BY_JMP: [Cycle; 2] = cycles![
     b'q' 0 0x10c 2 0xab00;
     b'Q' 0 0x10c 2 0xa900;
 ];
 
 /// The same by an IRET.
-const RELEASE_IRET: [Cycle; 2] = cycles![
+const RELEASED_BY_IRET: [Cycle; 2] = cycles![
     b'r' 0 0x10c 2 0xab00;
     b'R' 0 0x10c 2 0xa900;
 ];
 
+/// The old task's selector, written as the back link.
+const LINKED: [Cycle; 1] = cycles![
+    b'k' 0 0x280 3 0x9;
+];
+
+/// The cycles that leave the old task.
+fn leaving(kind: SwitchKind) -> &'static [Cycle] {
+    match kind {
+        SwitchKind::Jmp => RELEASED_BY_JMP.as_slice(),
+        SwitchKind::Call | SwitchKind::Event => LINKED.as_slice(),
+        SwitchKind::Iret => RELEASED_BY_IRET.as_slice(),
+        SwitchKind::Start => &[],
+    }
+}
+
 /// The new task's fields.
-const LOAD: [Cycle; 18] = cycles![
+const LOADED: [Cycle; 18] = cycles![
     b'f' 8 0x2a0 15 0x44;
     b'f' 9 0x2a4 15 0xffff_bfff;
     b'f' 10 0x2a8 15 0xb000_0000;
@@ -123,7 +155,7 @@ const LOAD: [Cycle; 18] = cycles![
 ];
 
 /// The descriptors of the LDT, CS, SS, DS, ES, FS and GS, with their accessed bytes.
-const LATER: [Cycle; 20] = cycles![
+const DESCRIBED: [Cycle; 20] = cycles![
     b'g' 0 0x118 15 0x158_000f;
     b'h' 0 0x11c 15 0x8200;
     b'g' 0 0x120 15 0xffff;
@@ -146,96 +178,13 @@ const LATER: [Cycle; 20] = cycles![
     b'L' 0 0x164 2 0xd100;
 ];
 
-/// A kind, its cycles in their order, and the flags and the access byte of TR behind it.
-type Whole = (SwitchKind, [&'static [Cycle]; 10], u32, u8);
-
-/// The order of work of each kind.
-const WHOLE: [Whole; 5] = [
-    (
-        SwitchKind::Jmp,
-        [
-            &FREE,
-            &CLAIM_JMP,
-            &SAVE_EIP,
-            &SAVE_FLAGS,
-            &SAVE_REST,
-            &RELEASE_JMP,
-            &LOAD,
-            &LATER,
-            &[],
-            &[],
-        ],
-        0x3fd7,
-        0xa9,
-    ),
-    (
-        SwitchKind::Call,
-        [
-            &FREE,
-            &CLAIM_CALL,
-            &SAVE_EIP,
-            &SAVE_FLAGS,
-            &SAVE_REST,
-            &LINK,
-            &LOAD,
-            &LATER,
-            &[],
-            &[],
-        ],
-        0x7fd7,
-        0xa9,
-    ),
-    (
-        SwitchKind::Event,
-        [
-            &FREE,
-            &CLAIM_CALL,
-            &SAVE_EIP,
-            &SAVE_FLAGS,
-            &SAVE_REST,
-            &LINK,
-            &LOAD,
-            &LATER,
-            &[],
-            &[],
-        ],
-        0x7fd7,
-        0xa9,
-    ),
-    (
-        SwitchKind::Iret,
-        [
-            &BACK,
-            &BUSY,
-            &SAVE_EIP,
-            &SAVE_FLAGS_IRET,
-            &SAVE_REST,
-            &RELEASE_IRET,
-            &LOAD,
-            &LATER,
-            &[],
-            &[],
-        ],
-        0x3fd7,
-        0xab,
-    ),
-    (
-        SwitchKind::Start,
-        [
-            &FREE,
-            &CLAIM_START,
-            &LOAD,
-            &LATER,
-            &[],
-            &[],
-            &[],
-            &[],
-            &[],
-            &[],
-        ],
-        0x3fd7,
-        0xa9,
-    ),
+/// A kind, and the flags and the access byte of TR behind a switch.
+const BEHIND: [(SwitchKind, u32, u8); 5] = [
+    (SwitchKind::Jmp, 0x3fd7, 0xa9),
+    (SwitchKind::Call, 0x7fd7, 0xa9),
+    (SwitchKind::Event, 0x7fd7, 0xa9),
+    (SwitchKind::Iret, 0x3fd7, 0xab),
+    (SwitchKind::Start, 0x3fd7, 0xa9),
 ];
 
 /// A register that can be used.
@@ -276,14 +225,40 @@ fn after(before: &Proc, flags: u32, access: u8) -> Proc {
     p
 }
 
+/// The cycles from a place on are these. The answer is the place behind them.
+fn go_on(rt: &impl Abort, bus: &FixedBus<0x400>, from: usize, wanted: &[Cycle]) -> usize {
+    let mut at = from;
+    for want in wanted {
+        let got = bus.cycles().get(at).map(|cycle| cycle.ask);
+        assert_eq!(rt; got.map(|ask| seen(&ask)), Some(*want), "{at}");
+        at = at.saturating_add(1);
+    }
+    at
+}
+
+/// The cycles of a bus are those of a whole switch, in their order.
+fn makes_each(rt: &impl Abort, bus: &FixedBus<0x400>, kind: SwitchKind) {
+    let mut at = go_on(rt, bus, 0, naming(kind));
+    at = go_on(rt, bus, at, saving(kind));
+    at = go_on(rt, bus, at, saving_registers(kind));
+    at = go_on(rt, bus, at, leaving(kind));
+    at = go_on(rt, bus, at, &LOADED);
+    at = go_on(rt, bus, at, &DESCRIBED);
+    assert_eq!(rt; bus.cycles().len(), at, "{kind:?}");
+}
+
 #[test]
 fn a_whole_switch_of_each_kind(rt: HostRuntime) {
-    for (kind, _, flags, access) in WHOLE {
+    for (kind, flags, access) in BEHIND {
         let w = sound(kind);
-        let mut p = w.before;
-        let mut bus = bus_of(&w);
-        let found = switch(&mut p, &mut bus, kind, named(&w, kind), true, false);
-        assert_eq!(rt; found, Ok(Outcome::Done), "{kind:?}");
-        assert_eq!(rt; p, after(&w.before, flags, access), "{kind:?}");
+        let way = Way {
+            kind,
+            direct: true,
+            ext: false,
+        };
+        let after = after(&w.before, flags, access);
+        let letters = (head(kind), ALL);
+        let bus = comes_to(&rt, "whole", &w, way, Outcome::Done, &after, letters);
+        makes_each(&rt, &bus, kind);
     }
 }
