@@ -181,8 +181,8 @@ static RUNS: [Run; 19] = [
 ];
 
 /// A cycle of a run.
-fn made(of: Made) -> Cycle {
-    let (cpu, write, role, addr, enables, value) = of;
+fn cycle_from(made: Made) -> Cycle {
+    let (cpu, write, role, addr, enables, value) = made;
     cycle_of(cpu, write, role, addr, enables, value)
 }
 
@@ -190,11 +190,11 @@ fn made(of: Made) -> Cycle {
 fn each_run_has_its_first_failure(rt: HostRuntime) {
     for (shows, run, rule, index) in RUNS.iter().copied() {
         let cycles = [
-            made(run[0]),
-            made(run[1]),
-            made(run[2]),
-            made(run[3]),
-            made(run[4]),
+            cycle_from(run[0]),
+            cycle_from(run[1]),
+            cycle_from(run[2]),
+            cycle_from(run[3]),
+            cycle_from(run[4]),
         ];
         assert_eq!(rt;
             verdict(rt.alloc(), &cycles),
@@ -206,7 +206,7 @@ fn each_run_has_its_first_failure(rt: HostRuntime) {
 
 /// The verdict on this cycle behind one that fails no rule: the rule that it fails, if it fails one.
 fn second(alloc: Global, cycle: Cycle) -> Result<Verdict, NoMemory> {
-    verdict(alloc, &[made(REST), cycle])
+    verdict(alloc, &[cycle_from(REST), cycle])
 }
 
 /// A write in memory: its role, the group, the enabled bytes, and whether rule 7 fails.
