@@ -12,7 +12,7 @@ use Rattle.m386_arbiter.specs.declared.rule.Stage.TheVariants.{Idle}
 use Rattle.m386_arbiter.specs.declared.seats.BusSeat.{BusSeat}
 use Rattle.m386_arbiter.specs.Rule.{rest_of, first_of, joined}
 use Rattle.m386_arbiter.specs.Seats.{IsIdle, own_of, own_cycles}
-use Rattle.m386_arbiter.specs.Ends.{AreSeats, AllOwn, NoneYet, made_by}
+use Rattle.m386_arbiter.specs.Ends.{AreSeats, AllOwn, NoneYet, IsOf, made_by}
 use Rattle.m386_arbiter.specs.Dealt.{IsDealer, IsGathered}
 
 pub dealt_rest : (n : ℕ) (m m' : Me RecordView View) → IsDealer n m → m' ≡ (rest_of m.0, m.1) → 0 < length m'.0.turns → IsDealer (n + 1) m'
@@ -140,6 +140,24 @@ all_own log n (l ∷ ls) h = (h 0 (omega arith) ∙ ap (λ k. cycles_of k log) (
   where
     same_place : (i : ℕ) → n + suc i ≡ (n + 1) + i
     same_place i = omega arith
+
+-- a seat in its place
+pub seat_at : (z : TableId) (n : ℕ) (xs : List BusSeat) (i : ℕ) (x : BusSeat) → AreSeats z n xs → i < length xs → x ≡ get_or xs i x → (x.seat.table_id ≡ z) × (x.number ≡ n + i)
+seat_at z n [] i x h l e = absurd (omega arith)
+seat_at z n (y ∷ ys) zero x h l e = (ap (λ (s : BusSeat). s.seat.table_id) e ∙ h.0, ap (λ (s : BusSeat). s.number) e ∙ h.1 ∙ sym (add-zero n))
+seat_at z n (y ∷ ys) (suc i) x h l e =
+    let r = seat_at z (n + 1) ys i x h.2 (omega arith) e in
+    let number : x.number ≡ (n + 1) + i = r.1 in
+    (r.0, omega arith)
+
+-- seats that are the same, one by one
+pub same_seats : (z : TableId) (n : ℕ) (xs ys : List BusSeat) → AreSeats z n xs → length ys ≡ length xs → ((i : ℕ) (d : BusSeat) → i < length xs → IsOf (get_or xs i d) (get_or ys i d)) → AreSeats z n ys
+same_seats z n [] [] h l e = tt
+same_seats z n [] (y ∷ ys) h l e = absurd (omega arith)
+same_seats z n (x ∷ xs) [] h l e = absurd (omega arith)
+same_seats z n (x ∷ xs) (y ∷ ys) h l e =
+    let first : IsOf x y = e 0 x (omega arith) in
+    (first.0 ∙ h.0, first.1 ∙ h.1, same_seats z (n + 1) xs ys h.2 (omega arith) (λ i d b. e (suc i) d (omega arith)))
 
 -- how far the seats have been dealt
 pub record Dealt (z : TableId) (cpus n : ℕ) (table : TableId) (me : Me RecordView View) (items : List BusSeat) : Type 0 where

@@ -4,3 +4,4 @@ pub mod Turns
 pub mod Gathering
 pub mod Closing
 pub mod Origins
+pub mod Sent

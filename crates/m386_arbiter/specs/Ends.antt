@@ -25,10 +25,6 @@ made_by s = own_cycles s.seat.me
 abbrev pub origin_of : TableId → ℕ → List ℕ
 origin_of z n = n ∷ z.words ∷ z.slots ∷ z.views_name ∷ z.atom ∷ z.block ∷ z.offset ∷ z.slot_names
 
--- this seat is one of this table, and has this number
-abbrev pub IsSeat : TableId → ℕ → BusSeat → Type 0
-IsSeat z n s = (s.seat.table_id ≡ z) × (s.number ≡ n)
-
 -- these are seats of this table, numbered from n on
 abbrev pub AreSeats : TableId → ℕ → List BusSeat → Type 0
 AreSeats z n [] = Unit {0}
@@ -43,3 +39,7 @@ AllOwn H n (l ∷ ls) = (l ≡ cycles_of n H) × AllOwn H (n + 1) ls
 abbrev pub NoneYet : List BusSeat → Type 0
 NoneYet [] = Unit {0}
 NoneYet (s ∷ ss) = (made_by s ≡ []) × NoneYet ss
+
+-- the same seat, maybe with more cycles
+abbrev pub IsOf : BusSeat → BusSeat → Type 0
+IsOf s t = (t.seat.table_id ≡ s.seat.table_id) × (t.number ≡ s.number)

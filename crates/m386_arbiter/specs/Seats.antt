@@ -15,7 +15,8 @@ pub record IsIdle (number : ℕ) (me : Me RecordView View) : Type 0 where
   pub idle : me.0.stage ≡ Idle
   pub empty : me.1 ≡ []
 
--- a seat of one number, with the record
+-- A seat of one number, with the record: it began with the first contents, its cycles are of the processors below the count, and all but this number's own
+-- are as they were found.
 pub record IsBusy (number : ℕ) (me : Me RecordView View) : Type 0 where
   pub ticket : ℕ
   pub found : List Cycle
