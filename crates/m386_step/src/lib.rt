@@ -13,5 +13,3 @@ pub mod probe;
 pub mod run;
 pub mod settled;
 pub mod step;
-#[cfg(test)]
-mod tests;
