@@ -1,0 +1,4 @@
+pub mod Exec
+pub mod Map
+pub mod Ports
+pub mod Transfer
