@@ -20,8 +20,6 @@ use m386_state::segment::TableReg;
 use std::alloc::Global;
 use std::test::Fail;
 
-mod ahead;
-
 /// Two bare processors at 1000, which both find `mov eax, 1` and `xchg [2000], eax` there.
 const EXCHANGE: [u8; 83] = [
     0x4d, 0x33, 0x38, 0x36, 0x01, 0x00, 0x02, 0x00, 0x00, 0x40, 0x00, 0x00, 0x00, 0x00, 0x00, 0x00,
