@@ -26,10 +26,10 @@ FIRST = bytes.fromhex("b878563412a300200000f4")
 ROUND = ["run", "--order=round"]
 
 
-def image(code=FIRST, cpus=1, memory=16384, gdt=(0, 0), idt=(0, 0), more=(), plan=()):
-    """An image whose processors all begin at 1000h, where the code stands, with further sections and a plan of (step, processor, vector)."""
+def image(code=FIRST, cpus=1, memory=16384, gdt=(0, 0), idt=(0, 0), more=(), plan=(), tasks=0):
+    """An image whose processors all begin at 1000h, where the code stands, with further sections, a plan of (step, processor, vector) and the flags of those that start in a task."""
     sections = [(0x1000, code), *more]
-    head = b"M386" + (1).to_bytes(2, "little") + bytes([cpus, 0]) + memory.to_bytes(4, "little")
+    head = b"M386" + (1).to_bytes(2, "little") + bytes([cpus, tasks]) + memory.to_bytes(4, "little")
     head += gdt[0].to_bytes(4, "little") + gdt[1].to_bytes(2, "little") + idt[1].to_bytes(2, "little") + idt[0].to_bytes(4, "little")
     head += len(plan).to_bytes(4, "little") + len(sections).to_bytes(4, "little") + (0x1000).to_bytes(4, "little") * cpus + bytes(4 * (8 - cpus))
     head += b"".join(step.to_bytes(4, "little") + bytes([cpu, vector, 0xEE, 0xEE]) for step, cpu, vector in plan)
@@ -127,6 +127,8 @@ def limits(checks):
         checks.call([*ROUND, "--steps=0"], empty(memory), *((0,) if taken else (5, IMAGE[4])))
     for cpus, taken in [(0, False), (1, True), (8, True)]:
         checks.call([*ROUND, "--steps=1"], image(HALT, cpus=cpus), *((0,) if taken else (5, IMAGE[5])))
+    for cpus, tasks, taken in [(1, 1, True), (1, 2, False), (2, 3, True), (2, 4, False), (7, 0x7F, True), (7, 0x80, False), (8, 0xFF, True)]:
+        checks.call([*ROUND, "--steps=1"], image(HALT, cpus=cpus, tasks=tasks), *((0,) if taken else (5, IMAGE[6])))
     nine = bytearray(eight)
     nine[6] = 9
     checks.call([*ROUND, "--steps=1"], bytes(nine), 5, IMAGE[5])

@@ -1,5 +1,5 @@
 -- What holds of every valid image, and that its text is its bytes.
-use Rattle.std.proofs.Common.{◌≡◌, ℕ, zero, suc, ◌+◌, ◌*◌, ◌^◌, ◌<◌, ◌≤◌, Bool, true, false, ltb, List, [], ◌∷◌, ◌++◌, length, get_or, take, drop, refl, sym, ap, subst, ◌∙◌, append_assoc, arith, inl, inr, lit<}
+use Rattle.std.proofs.Common.{◌≡◌, ℕ, zero, suc, ◌+◌, ◌*◌, ◌%◌, ◌^◌, ◌<◌, ◌≤◌, Bool, true, false, ltb, List, [], ◌∷◌, ◌++◌, length, get_or, take, drop, refl, sym, ap, subst, ◌∙◌, append_assoc, arith, inl, inr, lit<}
 use Rattle.std.specs.Prelude.{nat_lt, if◌then◌else◌, codes}
 use Rattle.std.specs.List.{flat_map, AllByRecursion}
 use Rattle.std.proofs.lemmas.Bool.{cases_lt, lt-ltb, le-ltb}
@@ -9,7 +9,7 @@ use Rattle.std.proofs.lemmas.Nat.{from_le_bytes-to_le_bytes_2, from_le_bytes-to_
 use Rattle.m386_image.specs.declared.image.Image.{Image}
 use Rattle.m386_image.specs.declared.image.Planned.{Planned}
 use Rattle.m386_image.specs.declared.image.TableAt.{TableAt}
-use Rattle.m386_image.specs.Format.{AreBytes, u16_at, u32_at, u16_bytes, u32_bytes, cpus_of, starts_of, start_word, entry_at, entries, entry_text, plan_count, plan_in, plan_end, section_text, HasText, ArePlaced, IsMemorySize, IsCpuCount, ImageOf, IsValid, HasImageText, head_text, tables_text, counts_text, image_text}
+use Rattle.m386_image.specs.Format.{AreBytes, u16_at, u32_at, u16_bytes, u32_bytes, cpus_of, flags_of, starts_of, starts_bare, start_in, start_word, AreFlags, entry_at, entries, entry_text, plan_count, plan_in, plan_end, section_text, HasText, ArePlaced, IsMemorySize, IsCpuCount, ImageOf, IsValid, HasImageText, head_text, tables_text, counts_text, image_text}
 use Rattle.m386_image.proofs.Plans.{length-entries, StepsFit, entries_fit, length-plan_text, entries-plan_text}
 use Rattle.m386_image.proofs.Numbers.{AreBytes-drop, u16_at_lt, u32_at_lt, u32_at-drop, u32_at-bytes, length-u32_bytes}
 
@@ -21,8 +21,12 @@ valid_memory image v = subst IsMemorySize (sym v.1.memory) v.1.header.memory
 pub valid_cpus : (image : Image) → IsValid image → IsCpuCount image.cpus
 valid_cpus image v = subst IsCpuCount (sym v.1.cpus) v.1.header.cpus
 
-pub valid_flags : (image : Image) → IsValid image → image.flags ≡ 0
-valid_flags image v = v.1.flags ∙ v.1.header.flags
+pub valid_flags : (image : Image) → IsValid image → AreFlags image.cpus image.flags
+valid_flags image v = rw (v.1.cpus, v.1.flags) v.1.header.flags
+
+-- the flags are a byte
+flags_byte : (image : Image) → IsValid image → image.flags < 256
+flags_byte image v = omega (arith, v.1.flags, v.1.are_bytes 7)
 
 pub valid_placed : (image : Image) → IsValid image → ArePlaced 0 image.memory image.sections
 valid_placed image v = v.1.placed
@@ -136,10 +140,22 @@ valid_starts image v = ap length v.1.starts ∙ length-starts_of v.0
 valid_start : (image : Image) (v : IsValid image) (k : ℕ) → k < 8 → get_or image.starts k 0 ≡ start_word v.0 k
 valid_start image v k lt = ap (λ (xs : List ℕ). get_or xs k 0) v.1.starts ∙ get_or-starts_of v.0 k lt
 
+-- a start is no greater than its word
+start_in_lt : (flags p word : ℕ) → word < 2 ^ 32 → start_in flags p word < 2 ^ 32
+start_in_lt flags p word lt =
+    let P : Bool → Type 0 = λ b. (if b then word else word % 2 ^ 16) < 2 ^ 32 in
+    elim (starts_bare flags p) as P [ true ↦ lt | false ↦ omega arith ]
+
+-- a start is its own start word
+start_in_again : (flags p word : ℕ) → start_in flags p (start_in flags p word) ≡ start_in flags p word
+start_in_again flags p word =
+    let P : Bool → Type 0 = λ b. (if b then (if b then word else word % 2 ^ 16) else (if b then word else word % 2 ^ 16) % 2 ^ 16) ≡ (if b then word else word % 2 ^ 16) in
+    elim (starts_bare flags p) as P [ true ↦ refl | false ↦ omega arith ]
+
 start_lt : (bytes : List ℕ) (k : ℕ) → AreBytes bytes → start_word bytes k < 2 ^ 32
 start_lt bytes k h =
-    let P : Bool → Type 0 = λ b. (if b then u32_at (32 + 4 * k) bytes else 0) < 2 ^ 32 in
-    elim (nat_lt k (cpus_of bytes)) as P [ true ↦ u32_at_lt (32 + 4 * k) bytes h | false ↦ omega arith ]
+    let P : Bool → Type 0 = λ b. (if b then start_in (flags_of bytes) k (u32_at (32 + 4 * k) bytes) else 0) < 2 ^ 32 in
+    elim (nat_lt k (cpus_of bytes)) as P [ true ↦ start_in_lt (flags_of bytes) k (u32_at (32 + 4 * k) bytes) (u32_at_lt (32 + 4 * k) bytes h) | false ↦ omega arith ]
 
 valid_start_lt : (image : Image) → IsValid image → (k : ℕ) → get_or image.starts k 0 < 2 ^ 32
 valid_start_lt image v k =
@@ -154,7 +170,12 @@ text_start image v text w k lt =
     let is : u32_at (32 + 4 * k) text ≡ get_or image.starts k 0 =
     sym (u32_at-drop 32 (4 * k) text) ∙ ap (u32_at (4 * k)) w.rest ∙ u32_at-words image.starts (flat_map entry_text image.plan ++ flat_map section_text image.sections) k (omega (arith, valid_starts image v)) (valid_start_lt image v) in
     elim (cases_lt k image.cpus) [
-      | inl here ↦ let t : ltb k image.cpus ≡ true = lt-ltb k image.cpus here in rw (w.cpus, t, is) refl
+      | inl below ↦
+          let t : ltb k image.cpus ≡ true = lt-ltb k image.cpus below in
+          let word = u32_at (32 + 4 * k) v.0 in
+          let here : start_word v.0 k ≡ start_in image.flags k word = rw (← v.1.cpus, t, v.1.flags) refl in
+          let start : get_or image.starts k 0 ≡ start_in image.flags k word = valid_start image v k lt ∙ here in
+          rw (w.cpus, t, w.flags, is) (start ∙ sym (start_in_again image.flags k word) ∙ ap (start_in image.flags k) (sym start))
       | inr past ↦
           let t : ltb k image.cpus ≡ false = le-ltb k image.cpus past in
           let absent : start_word v.0 k ≡ 0 = rw (← v.1.cpus, t) refl in
@@ -210,7 +231,7 @@ of_u32 n = record { bytes = u32_cells n }
 machine_bytes : (image : Image) → IsValid image → IsOfBytes (head_text image)
 machine_bytes image v =
     let magic : IsOfBytes (codes "M386") = record { bytes = listed_bytes (codes "M386") (lit< tt, (lit< tt, (lit< tt, (lit< tt, tt)))) } in
-    let cells : IsOfBytes (image.cpus ∷ image.flags ∷ []) = record { bytes = listed_bytes (image.cpus ∷ image.flags ∷ []) (omega (arith, valid_cpus image v), (omega (arith, valid_flags image v), tt)) } in
+    let cells : IsOfBytes (image.cpus ∷ image.flags ∷ []) = record { bytes = listed_bytes (image.cpus ∷ image.flags ∷ []) (omega (arith, valid_cpus image v), (flags_byte image v, tt)) } in
     both (both (both magic (of_u16 1)) cells) (of_u32 image.memory)
 
 tables_bytes : (image : Image) → IsOfBytes (tables_text image)
@@ -255,7 +276,7 @@ text_is_image image v =
     let read : entries (plan_count text) (drop 64 text) ≡ image.plan = ap (λ (n : ℕ). entries n (drop 64 text)) w.planned ∙ ap (entries (length image.plan)) behind ∙ entries-plan_text image.plan texts (valid_steps image v) in
     record {
       are_bytes = (text_bytes image v).bytes;
-      header = record { long = omega (arith, long); magic = w.magic; version = w.version; memory = rw w.memory (valid_memory image v); cpus = rw w.cpus (valid_cpus image v); flags = w.flags ∙ valid_flags image v };
+      header = record { long = omega (arith, long); magic = w.magic; version = w.version; memory = rw w.memory (valid_memory image v); cpus = rw w.cpus (valid_cpus image v); flags = rw (w.cpus, w.flags) (valid_flags image v) };
       memory = sym w.memory;
       cpus = sym w.cpus;
       flags = sym w.flags;

@@ -4,7 +4,7 @@ use Rattle.m386_image.specs.declared.fault.ImageFault.{ImageFault}
 use Rattle.m386_image.specs.declared.fault.ImageFault.TheVariants.{ShortHeader, Magic, Version, MemorySize, Processors, Flags, Truncated, PlanOrder, Trailing}
 use Rattle.m386_image.specs.declared.fault.ImageFault.TheVariants as faults
 use Rattle.m386_image.specs.declared.image.Section.{Section}
-use Rattle.m386_image.specs.Format.{version_of, cpus_of, flags_of, memory_of, plan_in, are_ordered, IsMemorySize, IsCpuCount, HasSections, ArePlaced}
+use Rattle.m386_image.specs.Format.{version_of, cpus_of, flags_of, memory_of, plan_in, are_ordered, IsMemorySize, IsCpuCount, AreFlags, HasSections, ArePlaced}
 
 -- A fault's number. Of faults that stand together the one with the least number is told.
 -- Own choice: docs/DECISIONS.md, "The image file"
@@ -35,7 +35,7 @@ fault_name faults.Section = codes "Section"
 fault_name Trailing = codes "Trailing"
 
 -- When a fault stands. Truncated says that the bytes end within the plan's entries and the sections that the header
--- counts: no sections stand there whole. Until a processor can start in a task Flags stands for every bit that is set.
+-- counts: no sections stand there whole.
 -- Own choice: docs/DECISIONS.md, "The image file"
 abbrev pub Stands : List ℕ → ImageFault → Type 0
 Stands bytes ShortHeader = length bytes < 64
@@ -43,7 +43,7 @@ Stands bytes Magic = take 4 bytes ≢ codes "M386"
 Stands bytes Version = version_of bytes ≢ 1
 Stands bytes MemorySize = ¬ IsMemorySize (memory_of bytes)
 Stands bytes Processors = ¬ IsCpuCount (cpus_of bytes)
-Stands bytes Flags = flags_of bytes ≢ 0
+Stands bytes Flags = ¬ AreFlags (cpus_of bytes) (flags_of bytes)
 Stands bytes Truncated = (ss : List Section) (rest : List ℕ) → ¬ HasSections bytes ss rest
 Stands bytes PlanOrder = are_ordered (cpus_of bytes) 0 (plan_in bytes) ≡ false
 Stands bytes faults.Section = (ss : List Section) × (rest : List ℕ) × HasSections bytes ss rest × ¬ ArePlaced 0 (memory_of bytes) ss

@@ -1,5 +1,5 @@
 -- The image file: the places of its fields, and the image that its bytes are.
-use Rattle.std.specs.Prelude.{◌≡◌, ℕ, zero, suc, Bool, true, ◌&&◌, nat_le, ◌+◌, ◌*◌, ◌%◌, ◌^◌, ◌<◌, ◌≤◌, if◌then◌else◌, nat_lt, List, [], ◌∷◌, ◌++◌, length, take, drop, map, slice_index, codes}
+use Rattle.std.specs.Prelude.{◌≡◌, ℕ, zero, suc, Bool, true, ◌&&◌, nat_le, ◌+◌, ◌*◌, ◌/◌, ◌%◌, ◌^◌, ◌<◌, ◌≤◌, ◌==◌, if◌then◌else◌, nat_lt, List, [], ◌∷◌, ◌++◌, length, take, drop, map, slice_index, codes}
 use Rattle.std.specs.Int.{w16, w32, to_le_bytes, from_le_bytes}
 use Rattle.std.specs.List.{flat_map, range_with_len, AllByRecursion}
 use Rattle.m386_image.specs.declared.image.Image.{Image}
@@ -58,10 +58,21 @@ plan_count bytes = u32_at 24 bytes
 abbrev pub section_count : List ℕ → ℕ
 section_count bytes = u32_at 28 bytes
 
+-- Processor p starts bare where its bit of the flags is 0, and else in a task.
+-- Own choice: docs/DECISIONS.md, "The image file"
+abbrev pub starts_bare : ℕ → ℕ → Bool
+starts_bare flags p = flags / 2 ^ p % 2 == 0
+
+-- The start that a start word gives processor p: the whole word, which is the EIP of one that starts bare, or the low half, which is the
+-- selector of one that starts in a task.
+-- Own choice: docs/DECISIONS.md, "The image file"
+abbrev pub start_in : ℕ → ℕ → ℕ → ℕ
+start_in flags p word = if starts_bare flags p then word else word % 2 ^ 16
+
 -- The start of processor p, which is 0 where there is no such processor, whatever stands in the file.
 -- Own choice: docs/DECISIONS.md, "The image file"
 abbrev pub start_word : List ℕ → ℕ → ℕ
-start_word bytes p = if nat_lt p (cpus_of bytes) then u32_at (32 + 4 * p) bytes else 0
+start_word bytes p = if nat_lt p (cpus_of bytes) then start_in (flags_of bytes) p (u32_at (32 + 4 * p) bytes) else 0
 
 -- the starts of the processors 0 to 7
 unfoldable pub starts_of : List ℕ → List ℕ
@@ -142,7 +153,12 @@ ArePlaced place memory (s ∷ ss) = (place ≤ s.addr) × (s.addr + length s.byt
 
 -- ---- the image
 
--- The header of an image. Until a processor can start in a task no flag is set.
+-- These flags are of processors below this count: no bit at the count or above it is set.
+-- Own choice: docs/DECISIONS.md, "The image file"
+abbrev pub AreFlags : ℕ → ℕ → Type 0
+AreFlags cpus flags = flags / 2 ^ cpus ≡ 0
+
+-- The header of an image.
 -- Own choice: docs/DECISIONS.md, "The image file"
 pub record HasHeader (bytes : List ℕ) : Type 0 where
   pub long : 64 ≤ length bytes
@@ -150,7 +166,7 @@ pub record HasHeader (bytes : List ℕ) : Type 0 where
   pub version : version_of bytes ≡ 1
   pub memory : IsMemorySize (memory_of bytes)
   pub cpus : IsCpuCount (cpus_of bytes)
-  pub flags : flags_of bytes ≡ 0
+  pub flags : AreFlags (cpus_of bytes) (flags_of bytes)
 
 -- The image that these bytes are.
 -- Own choice: docs/DECISIONS.md, "The image file"

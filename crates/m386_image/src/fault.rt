@@ -18,7 +18,7 @@ pub enum ImageFault {
     MemorySize,
     /// No processor, or more than 8.
     Processors,
-    /// A flag bit is set. Until a processor can start in a task this holds of every bit.
+    /// A flag bit is set of a processor that there is not.
     Flags,
     /// The bytes end within the plan entries and sections that the header counts.
     Truncated,

@@ -9,14 +9,14 @@ pub struct Image {
     pub memory: u32,
     /// How many processors there are: 1 to 8.
     pub cpus: u8,
-    /// Bit p is 1 where processor p starts in a task. Until such a start is built it is 0.
+    /// Bit p is 1 where processor p starts in a task. For a processor that there is not it is 0.
     pub flags: u8,
     /// The global descriptor table that each processor starts with (PRM 5.1.2).
     pub gdt: TableAt,
     /// The interrupt descriptor table that each processor starts with (PRM 9.4).
     pub idt: TableAt,
-    /// Where each processor starts: the EIP of a bare processor, or the selector of a task state segment in the low 16
-    /// bits. For a processor that there is not it is 0.
+    /// Where each processor starts: the EIP of a bare processor, or the selector of a task state segment, with zeros in the high
+    /// 16 bits. For a processor that there is not it is 0.
     pub starts: [u32; 8],
     /// The interrupts that come from outside, rising by processor, and those of one processor by step.
     pub plan: List<Planned>,

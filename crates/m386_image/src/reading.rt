@@ -1,7 +1,7 @@
 //! An image from bytes.
-ghost use Rattle.std.specs.Prelude.{◌≡◌, ◌↔◌, ◌⊎◌, ◌<◌, ◌≤◌, length, Result, Ok, Err, IsTrue, IfOk, MatchResult};
+ghost use Rattle.std.specs.Prelude.{◌≡◌, ◌↔◌, ◌⊎◌, ◌+◌, ◌*◌, ◌<◌, ◌≤◌, length, Result, Ok, Err, IsTrue, IfOk, MatchResult};
 ghost use Rattle.m386_image.specs.Fault.{FirstFault};
-ghost use Rattle.m386_image.specs.Format.{IsMemorySize, HasHeader, ImageOf, plan_end, cpus_of, plan_in, are_ordered, starts_of, start_word};
+ghost use Rattle.m386_image.specs.Format.{IsMemorySize, HasHeader, ImageOf, plan_end, cpus_of, plan_in, are_ordered, flags_of, starts_of, start_in, start_word, u32_at};
 ghost use Rattle.m386_image.specs.declared.fault.ImageFault.{ImageFault};
 ghost use Rattle.m386_image.specs.declared.fault.ReadStop.TheVariants.{Memory, Bad};
 ghost use Rattle.m386_image.specs.declared.image.Image.{Image};
@@ -67,7 +67,7 @@ fn check_header(bytes: &[u8]) -> Result<(), ImageFault>
     if bytes[CPUS] == 0 || bytes[CPUS] > 8 {
         return Err(ImageFault::Processors);
     }
-    if bytes[FLAGS] != 0 {
+    if u16::from(bytes[FLAGS]) >> bytes[CPUS] != 0 {
         return Err(ImageFault::Flags);
     }
     Ok(())
@@ -139,6 +139,20 @@ pub(crate) fn check_image(bytes: &[u8]) -> Result<(), ImageFault>
     check_body(bytes)
 }
 
+/// Where a processor starts: of a start word that is a selector the high half is ignored.
+fn start_of(bytes: &[u8], cpu: usize) -> u32
+    requires long { 64 ≤ length bytes.now }
+    requires below { cpu < 8 }
+    ensures { result ≡ start_in (flags_of bytes.now) cpu (u32_at (32 + 4 * cpu) bytes.now) }
+{
+    let word = read_u32(bytes, STARTS + 4 * cpu);
+    if (bytes[FLAGS] >> cpu) % 2 == 0 {
+        word
+    } else {
+        word % 0x1_0000
+    }
+}
+
 /// Where each processor starts.
 fn read_starts(bytes: &[u8]) -> [u32; 8]
     requires { HasHeader bytes.now }
@@ -148,7 +162,7 @@ fn read_starts(bytes: &[u8]) -> [u32; 8]
     let mut starts = [0; 8];
     for (cpu, start) in starts.iter_mut().enumerate() {
         if cpu < cpus {
-            *start = read_u32(bytes, STARTS + 4 * cpu);
+            *start = start_of(bytes, cpu);
         }
     }
     starts
@@ -181,8 +195,6 @@ fn image_in(alloc: Global, bytes: &[u8]) -> Result<Image, NoMemory>
 }
 
 /// The image that the bytes are, or the first of their faults. The work takes time in proportion to the bytes.
-///
-/// Until a processor can start in a task a set flag bit is the fault `Flags`, in its place in the order.
 pub fn read_image(alloc: Global, bytes: &[u8]) -> Result<Image, ReadStop>
     ensures ok { IfOk result (ImageOf bytes.now) }
     // Bytes that are an image are read, unless memory runs out.

@@ -60,7 +60,7 @@ fn reads_an_image_and_writes_it_back(rt: HostRuntime) -> Result<(), Fail> {
 }
 
 /// How many of the first bytes of `BARE` are kept, which are replaced, what stands behind them, and the fault.
-static FAULTY: [(usize, &[(usize, u8)], &[u8], ImageFault); 59] = [
+static FAULTY: [(usize, &[(usize, u8)], &[u8], ImageFault); 68] = [
     (63, &[], &[], ImageFault::ShortHeader),
     (63, &[(0, 0)], &[], ImageFault::ShortHeader),
     (83, &[(3, 0x37)], &[], ImageFault::Magic),
@@ -77,7 +77,7 @@ static FAULTY: [(usize, &[(usize, u8)], &[u8], ImageFault); 59] = [
     ),
     (83, &[(6, 0)], &[], ImageFault::Processors),
     (83, &[(6, 9), (7, 1)], &[], ImageFault::Processors),
-    (83, &[(7, 1)], &[], ImageFault::Flags),
+    (83, &[(7, 3)], &[], ImageFault::Flags),
     (82, &[(7, 0x80)], &[], ImageFault::Flags),
     (82, &[], &[], ImageFault::Truncated),
     (83, &[(28, 2)], &[], ImageFault::Truncated),
@@ -120,8 +120,19 @@ static FAULTY: [(usize, &[(usize, u8)], &[u8], ImageFault); 59] = [
     (83, &[(6, 9)], &[], ImageFault::Processors),
     (83, &[(6, 0xff), (28, 2)], &[], ImageFault::Processors),
     (83, &[(7, 2)], &[], ImageFault::Flags),
-    (83, &[(6, 8), (7, 0x40)], &[], ImageFault::Flags),
-    (83, &[(6, 8), (7, 0x80), (28, 9)], &[], ImageFault::Flags),
+    // A bit of the first processor that there is not, and of the last; the highest flag bits of seven processors and of six.
+    (83, &[(6, 2), (7, 4)], &[], ImageFault::Flags),
+    (83, &[(6, 3), (7, 8)], &[], ImageFault::Flags),
+    (83, &[(6, 4), (7, 0x10)], &[], ImageFault::Flags),
+    (83, &[(6, 5), (7, 0x20)], &[], ImageFault::Flags),
+    (83, &[(6, 6), (7, 0x40)], &[], ImageFault::Flags),
+    (83, &[(6, 7), (7, 0x80)], &[], ImageFault::Flags),
+    (83, &[(6, 7), (7, 0xff), (28, 9)], &[], ImageFault::Flags),
+    (83, &[(6, 6), (7, 0xbf), (28, 9)], &[], ImageFault::Flags),
+    // Flags of all processors are no fault, and the next one is told.
+    (82, &[(7, 1)], &[], ImageFault::Truncated),
+    (82, &[(6, 7), (7, 0x7f)], &[], ImageFault::Truncated),
+    (82, &[(6, 8), (7, 0xff)], &[], ImageFault::Truncated),
     // A plan's entries have eight bytes each, and a section's head has eight.
     (64, &[(24, 1), (28, 0)], &[0; 7], ImageFault::Truncated),
     (
@@ -386,12 +397,74 @@ fn each_number_is_written_to_its_place(rt: HostRuntime) -> Result<(), Fail> {
 }
 
 #[test]
+fn a_processor_starts_in_a_task_by_its_bit(rt: HostRuntime) -> Result<(), Fail> {
+    // The flags, and where the eight processors of `APART` start: by the whole word, or by a selector in its low half.
+    let rows: [(u8, [u32; 8]); 4] = [
+        (
+            0x01,
+            [
+                0x0201,
+                0x0807_0605,
+                0x0c0b_0a09,
+                0x100f_0e0d,
+                0x1413_1211,
+                0x1817_1615,
+                0x1c1b_1a19,
+                0x201f_1e1d,
+            ],
+        ),
+        (
+            0x80,
+            [
+                0x0403_0201,
+                0x0807_0605,
+                0x0c0b_0a09,
+                0x100f_0e0d,
+                0x1413_1211,
+                0x1817_1615,
+                0x1c1b_1a19,
+                0x1e1d,
+            ],
+        ),
+        (
+            0x5a,
+            [
+                0x0403_0201,
+                0x0605,
+                0x0c0b_0a09,
+                0x0e0d,
+                0x1211,
+                0x1817_1615,
+                0x1a19,
+                0x201f_1e1d,
+            ],
+        ),
+        (
+            0xff,
+            [
+                0x0201, 0x0605, 0x0a09, 0x0e0d, 0x1211, 0x1615, 0x1a19, 0x1e1d,
+            ],
+        ),
+    ];
+    for (flags, starts) in rows {
+        let mut bytes = Vec::from_slice(rt.alloc(), &APART)?;
+        bytes[7] = flags;
+        let image = read_image(rt.alloc(), &bytes)?;
+        assert_eq!(rt; (image.flags, image.starts), (flags, starts));
+        let written = write_image(rt.alloc(), &image)?;
+        let again = read_image(rt.alloc(), &written)?;
+        assert_eq!(rt; (again.flags, again.starts), (flags, starts));
+    }
+    Ok(())
+}
+
+#[test]
 fn an_image_that_isnt_valid_has_a_text(rt: HostRuntime) -> Result<(), Fail> {
     let at = TableAt { base: 0, limit: 0 };
     let image = Image {
         memory: 16_384,
         cpus: 1,
-        flags: 1,
+        flags: 2,
         gdt: at,
         idt: at,
         starts: [0x1000, 0, 0, 0, 0, 0, 0, 0],
@@ -399,7 +472,7 @@ fn an_image_that_isnt_valid_has_a_text(rt: HostRuntime) -> Result<(), Fail> {
         sections: List::new(rt.alloc()),
     };
     let text = text_of(rt.alloc(), &image)?;
-    let wanted = edited(rt.alloc(), 64, &[(7, 1), (28, 0)], &[])?;
+    let wanted = edited(rt.alloc(), 64, &[(7, 2), (28, 0)], &[])?;
     assert_eq!(rt; text.as_slice(), wanted.as_slice());
     let stop = read_image(rt.alloc(), &text).err();
     assert_eq!(rt; stop, Some(ReadStop::Bad(ImageFault::Flags)));

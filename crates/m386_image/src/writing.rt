@@ -119,7 +119,7 @@ fn put_sections(out: &mut Vec<u8>, sections: &[Section]) -> Result<(), NoMemory>
 
 /// The bytes of an image that need not be valid, with 0 in each word and byte that a reader ignores. Only its counts of plan entries
 /// and of sections, and the numbers of each section, have to fit their places. A reader tells the first fault of an image that isn't
-/// valid, such as a flag that is set. The work takes time in proportion to the bytes.
+/// valid, such as one with a flag of a processor that there is not. The work takes time in proportion to the bytes.
 #[tactic(auto, using(std::proofs::lemmas::List::append_assoc), unfolding(crate::specs::Format::image_text))]
 pub fn text_of(alloc: Global, image: &Image) -> Result<Vec<u8>, NoMemory>
     requires { HasImageText image.now }
