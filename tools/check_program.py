@@ -1,6 +1,7 @@
 #!/usr/bin/env python3
 """Checks the built program as a whole: each status with its line, the limits and one beyond each, which of two causes is told,
-the orders, and runs of ample size, which have to be Done. `.ci/run` calls it behind `rt ci`, on each way the program was built.
+the orders, whole reports byte for byte (tools/reports.txt), and runs of ample size, which have to be Done. `.ci/run` calls it behind `rt ci`, on each way the
+program was built.
 
 usage: check_program.py PROGRAM
 
@@ -78,13 +79,53 @@ def ends(lines):
     return [line.split() for line in lines if line.startswith("p ")]
 
 
+def runs():
+    """The runs of reports.txt: their names, images and words, and the reports that are wanted."""
+    with open(os.path.join(os.path.dirname(os.path.abspath(__file__)), "reports.txt"), encoding="utf-8") as text:
+        lines = text.read().splitlines()
+    others = next(line for line in lines if line.startswith("#  "))[3:]
+    for at, name in enumerate(lines):
+        if name.startswith(("#", " ")):
+            continue
+        numbers, plan, sections, words, report = {}, [], [], [], []
+        for line in lines[at + 1 :]:
+            if not line.startswith(" "):
+                break
+            word, rest = line[1:].split(" ", 1) if " " in line[1:] else (line[1:], "")
+            if word == "image":
+                numbers = dict(part.split("=") for part in rest.split())
+            elif word == "plan":
+                fields = [int(field, 16) for field in rest.split()]
+                plan = [tuple(fields[i : i + 3]) for i in range(0, len(fields), 3)]
+            elif word == "at":
+                address, data = rest.split(" ", 1)
+                sections.append((int(address, 16), bytes.fromhex(data)))
+            elif word == "words":
+                words = rest.split()
+            else:
+                report.append(line[1:].replace("OTHERS", others) + "\n")
+        gdt, idt = (tuple(int(n, 16) for n in numbers.get(table, "0:0").split(":")) for table in ("gdt", "idt"))
+        (first, code), more = sections[0], sections[1:]
+        assert first == 0x1000 and report, name
+        yield name, image(code, int(numbers.get("cpus", "1")), gdt=gdt, idt=idt, more=more, plan=plan), words, "".join(report)
+
+
+def reports(checks):
+    """Each run of reports.txt writes its report."""
+    made = 0
+    for name, data, words, report in runs():
+        made += 1
+        checks.want(checks.call(["run", *words], data, 0) == report, f"the report of: {name}")
+    checks.want(made == 19, f"19 runs are wanted, and there are {made}")
+
+
 def statuses(checks):
     """Each status of a call, and its line."""
     one = image()
     for words, kind in [
         ([], 1), ([""], 1), (["Run"], 1), (["RUN"], 1), (["run "], 1), (["asm"], 1), (["--order=round"], 1), (["--steps=3", "run"], 1),
-        (["run", "run"], 2), ([*ROUND, ""], 2), ([*ROUND, "--"], 2), ([*ROUND, "--frob=1"], 2), ([*ROUND, "--steps"], 2), ([*ROUND, "--steps", "3"], 2),
-        ([*ROUND, "-steps=3"], 2), ([*ROUND, "--Steps=3"], 2), ([*ROUND, "--order=round"], 2), ([*ROUND, "--cpus=1", "--cpus=1"], 2),
+        (["run", "run"], 2), ([*ROUND, ""], 2), ([*ROUND, "--"], 2), ([*ROUND, "--frob=1"], 2), ([*ROUND, "run"], 2), ([*ROUND, "--steps"], 2), ([*ROUND, "--steps", "3"], 2),
+        ([*ROUND, "-steps=3"], 2), (["run", "--steps=x", "--frob=1"], 2), (["run", "--order=seed", "--seed=1", "--seed=1"], 2), (["run", "--steps=x", "--order=round"], 3), ([*ROUND, "--Steps=3"], 2), ([*ROUND, "--order=round"], 2), ([*ROUND, "--cpus=1", "--cpus=1"], 2),
         ([*ROUND, "--seed=1", "--seed=1"], 2), ([*ROUND, "--steps=1", "--steps=1"], 2),
         (["run"], 3), (["run", "--steps=3"], 3), (["run", "--order="], 3), (["run", "--order=Round"], 3), (["run", "--order=rounds"], 3),
         (["run", "--order=seeds"], 3), (["run", "--order=list"], 3), ([*ROUND, "--steps="], 3), ([*ROUND, "--steps=x"], 3), ([*ROUND, "--steps=-1"], 3),
@@ -145,6 +186,8 @@ def causes(checks):
     checks.call([*ROUND, "--cpus=8", "--steps=65536"], bad, 5, IMAGE[7])
     checks.call([*ROUND, "--cpus=2"], b"", 5, IMAGE[1])
     checks.call(["Run"], bytes(MOST_BYTES + 1), 2, USAGE[1])
+    for data, fault in [(one[:63], 1), (bad, 7), (one + b"\0", 10)]:
+        checks.call([*ROUND, "--steps=3"], data, 5, IMAGE[fault])
 
 
 def drawn(seed, count, made):
@@ -164,6 +207,14 @@ def orders(checks):
             lines = cycles(checks.call(["run", "--order=seed", "--steps=500", *word], image(LOOP, cpus=cpus), 0).splitlines())
             front = [int(c[1]) for c in lines[:400]]
             checks.want(front == list(drawn(seed, cpus, 400)), f"{cpus} processors drawn by seed {seed}")
+
+
+def first_drawn(checks):
+    """Of two processors the first number drawn names 0 from seed 1, the seed where none is given, and 1 from seed 3."""
+    for words, begin in [(["--order=seed", "--steps=1"], ["cpus 2", "c 0 "]), (["--seed=3", "--order=seed", "--steps=1"], ["cpus 2", "c 1 "]),
+                         (["--cpus=1", "--order=seed", "--steps=1"], ["cpus 1", "c 0 "])]:
+        lines = checks.call(["run", *words], image(LOOP, cpus=2), 0).splitlines()
+        checks.want(lines[1].endswith(begin[0]) and lines[2].startswith(begin[1]), f"{words}: {lines[1:3]}")
 
 
 def ample(checks):
@@ -251,7 +302,7 @@ def verdicts(checks):
 
 def main():
     checks = Checks(sys.argv[1])
-    for part in (statuses, limits, causes, orders, ample, plans, verdicts):
+    for part in (statuses, reports, limits, causes, orders, first_drawn, ample, plans, verdicts):
         part(checks)
     print(f"{sys.argv[1]}: {checks.made} checks of the program, {checks.wrong} wrong")
     return 1 if checks.wrong else 0
