@@ -13,6 +13,4 @@ mod rotates;
 pub mod shifts;
 mod signs;
 mod sums;
-#[cfg(test)]
-mod tests;
 pub mod width;

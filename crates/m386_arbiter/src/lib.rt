@@ -6,5 +6,3 @@ mod plays;
 mod rule;
 pub mod seat_bus;
 pub mod seats;
-#[cfg(test)]
-mod tests;

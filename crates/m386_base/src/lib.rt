@@ -16,5 +16,3 @@ pub mod number;
 pub mod probe;
 pub mod segments;
 pub mod split;
-#[cfg(test)]
-mod tests;

@@ -10,7 +10,5 @@ mod rules;
 mod segments;
 mod table;
 mod tasks;
-#[cfg(test)]
-mod tests;
 pub mod verdict;
 pub mod waiting;

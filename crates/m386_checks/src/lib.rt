@@ -6,5 +6,3 @@ pub mod facts;
 pub mod first;
 mod holds;
 pub mod table;
-#[cfg(test)]
-mod tests;

@@ -11,6 +11,4 @@ pub mod exec;
 pub mod laws;
 pub mod moves;
 pub mod products;
-#[cfg(test)]
-mod tests;
 pub mod update;

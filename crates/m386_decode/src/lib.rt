@@ -7,5 +7,3 @@ pub mod decoded;
 pub mod laws;
 pub mod slice_source;
 pub mod source;
-#[cfg(test)]
-mod tests;

@@ -7,5 +7,3 @@ pub mod gate;
 pub mod iret;
 pub mod laws;
 pub mod second;
-#[cfg(test)]
-mod tests;

@@ -7,5 +7,3 @@ pub mod gate;
 pub mod kind;
 pub mod offsets;
 pub mod selector;
-#[cfg(test)]
-mod tests;

@@ -121,6 +121,3 @@ pub fn encode(op: &Op) -> Option<ArrayVec<u8, 15>>
 {
     best_of(op)
 }
-
-#[cfg(test)]
-mod tests;

@@ -9,6 +9,3 @@ ghost use Rattle.m386_encode.specs.RoundTrip.{IsReadBack};
 pub fn written_is_decoded()
     ensures { (op : Op) (bytes : List ℕ) → Spells op bytes → length bytes ≤ 15 → IsReadBack op bytes }
 {}
-
-#[cfg(test)]
-mod tests;

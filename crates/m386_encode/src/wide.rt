@@ -126,6 +126,3 @@ pub fn full_row_for_each()
 pub fn near_jumps_stay_near()
     ensures { (r : Row) → Contains opcode_rows r → is_always_near r.name ≡ true → r.first ≡ Jb }
 {}
-
-#[cfg(test)]
-mod tests;

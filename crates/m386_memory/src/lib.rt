@@ -7,5 +7,3 @@ mod group;
 pub mod history;
 pub mod laws;
 pub mod store;
-#[cfg(test)]
-mod tests;

@@ -348,6 +348,3 @@ pub fn one_row_for_bytes()
 pub fn no_longer_spelling()
     ensures { (op other : Op) (bytes rest : List ℕ) → Spells op bytes → Spells other (bytes ++ rest) → rest ≡ [] }
 {}
-
-#[cfg(test)]
-mod tests;

@@ -12,6 +12,4 @@ pub mod requirements;
 pub mod rules;
 pub mod segment;
 pub mod tables;
-#[cfg(test)]
-mod tests;
 pub mod wanted;

@@ -9,5 +9,3 @@ pub mod laws;
 pub mod names;
 pub mod single;
 pub mod stack;
-#[cfg(test)]
-mod tests;

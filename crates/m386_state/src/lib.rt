@@ -4,5 +4,3 @@
 pub mod event;
 pub mod proc;
 pub mod segment;
-#[cfg(test)]
-mod tests;

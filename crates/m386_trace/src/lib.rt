@@ -4,10 +4,8 @@
 pub mod cycle;
 mod field;
 pub mod laws;
-mod machine;
+pub mod machine;
 pub mod proc;
 pub mod report;
-#[cfg(test)]
-mod tests;
-mod verdict;
-mod words;
+pub mod verdict;
+pub mod words;

@@ -8,7 +8,7 @@ use m386_image::image::Image;
 
 /// The second line of the report, for a run of so many processors.
 #[tactic(auto, unfolding(crate::specs::Report::machine_text))]
-pub(crate) fn machine_line(image: &Image, cpus: usize) -> ArrayString<64>
+pub fn machine_line(image: &Image, cpus: usize) -> ArrayString<64>
     ensures { result.bytes ≡ machine_text image.now cpus }
 {
     let mut line = ArrayString::new();

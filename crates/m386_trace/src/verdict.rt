@@ -45,7 +45,7 @@ fn word(text: &str) -> ArrayString<64>
 
 /// The last line of the report.
 #[tactic(auto, unfolding(crate::specs::Report::verdict_text))]
-pub(crate) fn verdict_line(verdict: &Verdict) -> ArrayString<64>
+pub fn verdict_line(verdict: &Verdict) -> ArrayString<64>
     ensures { result.bytes ≡ verdict_text verdict.now }
 {
     let mut line = match verdict {

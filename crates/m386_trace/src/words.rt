@@ -7,7 +7,7 @@ use m386_base::ask::{Role, Space};
 use m386_state::proc::Mode;
 
 /// The word for a role.
-pub(crate) fn role_word(role: Role) -> &'static str
+pub fn role_word(role: Role) -> &'static str
     ensures word { result.now ≡ role_word role }
     ensures short { length result.now ≤ 10 }
 {

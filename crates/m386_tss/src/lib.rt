@@ -3,5 +3,3 @@
 
 pub mod fields;
 pub mod orders;
-#[cfg(test)]
-mod tests;

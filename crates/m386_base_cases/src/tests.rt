@@ -1,0 +1,4 @@
+//! What stands below every other crate.
+mod accesses;
+mod edges;
+mod memory;

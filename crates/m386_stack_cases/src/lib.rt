@@ -1,0 +1,5 @@
+//! Worked operations on the stack.
+#![tactic(auto)]
+
+#[cfg(test)]
+mod tests;

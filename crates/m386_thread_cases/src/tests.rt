@@ -1,0 +1,3 @@
+//! Threads that share a record or take turns.
+mod seats;
+mod turns;

@@ -1,0 +1,5 @@
+//! Worked lines of a report.
+#![tactic(auto)]
+
+#[cfg(test)]
+mod tests;

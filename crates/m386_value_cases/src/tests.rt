@@ -1,0 +1,6 @@
+//! What is a function of values alone.
+mod arithmetic;
+mod checks;
+mod descriptors;
+mod fields;
+mod states;
