@@ -6,3 +6,5 @@ pub mod facts;
 pub mod first;
 mod holds;
 pub mod table;
+#[cfg(test)]
+mod tests;

@@ -1,6 +1,5 @@
 //! What is a function of values alone.
 mod arithmetic;
-mod checks;
 mod descriptors;
 mod fields;
 mod states;

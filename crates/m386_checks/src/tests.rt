@@ -1,10 +1,10 @@
 //! The check table at work: each row, each data segment register, and the order.
 ghost use Rattle.std.specs.Prelude.{◌<◌};
 
+use crate::facts::{Context, Facts, Fail, SwitchKind};
+use crate::first::{first_fail, old_fail};
 use m386_base::desc::Desc;
 use m386_base::fault::Fault;
-use m386_checks::facts::{Context, Facts, Fail, SwitchKind};
-use m386_checks::first::{first_fail, old_fail};
 
 /// A direct JMP to a sound task of level 3.
 fn sound() -> Facts {
