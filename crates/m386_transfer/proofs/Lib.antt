@@ -1,2 +1,4 @@
 pub mod Gates
 pub mod Plain
+pub mod Tried
+pub mod Work
