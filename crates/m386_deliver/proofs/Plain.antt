@@ -1,5 +1,5 @@
 -- What deliveries and returns from handlers owe.
-use Rattle.std.proofs.Common.{◌≡◌, ℕ, zero, suc, ◌+◌, ◌-◌, ◌*◌, ◌%◌, ◌^◌, ◌||◌, ◌∙◌, refl, sym, inl, List, [], ◌∷◌, length, Bool, true, false, Option, Some, None}
+use Rattle.std.proofs.Common.{◌≡◌, ℕ, zero, suc, arith, ◌+◌, ◌-◌, ◌*◌, ◌%◌, ◌^◌, ◌||◌, ◌∙◌, refl, sym, inl, List, [], ◌∷◌, length, Bool, true, false, Option, Some, None}
 use Rattle.m386_base.specs.declared.ask.Ask.{Ask}
 use Rattle.m386_base.specs.declared.ask.Role.TheVariants as roles
 use Rattle.m386_base.specs.declared.desc.Desc.{Desc}
@@ -32,11 +32,13 @@ use Rattle.m386_stack.proofs.Pushed.{pop_then, pushes_then}
 use Rattle.m386_transfer.specs.declared.place.Target.{Target}
 use Rattle.m386_transfer.specs.Gate.{gate_of}
 use Rattle.m386_transfer.specs.Place.{level_of, target_fault}
+use Rattle.m386_transfer.specs.Tried.{KeepsRun, TriedFrom}
 use Rattle.m386_transfer.proofs.Plain.{return_then, stack_for_then, stays_placed}
+use Rattle.m386_transfer.proofs.Tried.{tried_if, tried_faults, tried_simply, tried_switch}
 use Rattle.m386_deliver.specs.Deliver.{gate_target, frame_of, entered, framed_phrase, pushed_phrase, through_phrase, deliver_phrase}
 use Rattle.m386_deliver.specs.Exec.{asked_for, handler_work_of, on_overflow_phrase, work_phrase, exec_phrase}
 use Rattle.m386_deliver.specs.Gate.{is_from_outside, entry_phrase, gate_phrase}
-use Rattle.m386_deliver.specs.Iret.{behind_image_phrase, image_phrase, handler_left_phrase, returned_phrase}
+use Rattle.m386_deliver.specs.Iret.{behind_image_phrase, image_phrase, handler_left_phrase, back_brief, returned_phrase}
 use Rattle.m386_deliver.specs.declared.exec.HandlerWork.{HandlerWork}
 use Rattle.m386_deliver.specs.declared.exec.HandlerWork.TheVariants.{Enter, EnterOnOverflow, Leave}
 use Rattle.m386_deliver.proofs.Frames.{frame_is_short, handler_nested}
@@ -121,15 +123,20 @@ plain_image : (p : Proc) (ts : List Ask) (selector eip : ℕ) (st : Stack) (w : 
 unfolding image_phrase
 plain_image p ts selector eip st w = pop_flags_then p.gdtr 16 (Keeps p) ts st (size_of w) _ refl (is_length w) (λ us image h. plain_behind_image p us selector eip image (moved st (size_of w)) (size_of w) h)
 
--- IRET: at most twenty cycles, each an ordinary one.
-pub plain_returned : (p : Proc) (w : Width) → PlainFrom 20 p (returned_phrase p w)
-unfolding returned_phrase handler_left_phrase
-plain_returned p w =
+plain_left : (p : Proc) (w : Width) → PlainFrom 20 p (handler_left_phrase p (size_of w))
+unfolding handler_left_phrase
+plain_left p w =
     let len = size_of w in
-    plain_if 20 (Ordinary p.gdtr) (Keeps p) [] (has_flag flags.NestedTask p.eflags) _ _ (plain_faults 20 (Ordinary p.gdtr) (Keeps p) [] _)
-    (pop_then p.gdtr 20 (Keeps p) [] roles.Pop (own_stack p) len _ refl refl (λ us eip.
+    pop_then p.gdtr 20 (Keeps p) [] roles.Pop (own_stack p) len _ refl refl (λ us eip.
     pop_then p.gdtr 18 (Keeps p) us roles.Pop (moved (own_stack p) len) len _ refl refl (λ vs selector.
-    plain_image p vs (selector % 2 ^ 16) eip (moved (moved (own_stack p) len) len) w)))
+    plain_image p vs (selector % 2 ^ 16) eip (moved (moved (own_stack p) len) len) w))
+
+-- IRET: at most twenty cycles, each an ordinary one, or a switch.
+pub tried_returned : (p : Proc) (w : Width) → TriedFrom 113 p (returned_phrase p w)
+unfolding returned_phrase
+tried_returned p w =
+    tried_if 113 (Ordinary p.gdtr) (KeepsRun p) p [] (has_flag flags.NestedTask p.eflags) _ _ (tried_switch 113 (Ordinary p.gdtr) (KeepsRun p) p back_brief [] refl (omega arith) tt)
+    (tried_simply 20 113 p [] (handler_left_phrase p (size_of w)) (omega arith) (plain_left p w))
 
 on_overflow_plain : (p : Proc) → PlainFrom 30 p (on_overflow_phrase p)
 unfolding on_overflow_phrase
@@ -137,16 +144,13 @@ on_overflow_plain p =
     plain_if 30 (Ordinary p.gdtr) (Keeps p) [] (has_flag flags.Overflow p.eflags) _ _ (plain_deliver p [] (asked_for (vector_of exceptions.Overflow)))
     (plain_done 30 (Ordinary p.gdtr) (Keeps p) [] p (keeps_stays p [] p (stays_same p)))
 
-more : (p : Proc) (t : Phrase Proc) → PlainFrom 20 p t → PlainFrom 30 p t
-more p t h = plain_more 20 10 (Ordinary p.gdtr) (Keeps p) [] t h
-
 -- each kind of work, one line
-work_plain : (work : Option HandlerWork) (w : Width) (p : Proc) → PlainFrom 30 p (work_phrase work w p)
-work_plain (Some (Enter vector)) w p = plain_deliver p [] (asked_for vector)
-work_plain (Some EnterOnOverflow) w p = on_overflow_plain p
-work_plain (Some Leave) w p = more p (returned_phrase p w) (plain_returned p w)
-work_plain None w p = plain_faults 30 (Ordinary p.gdtr) (Keeps p) [] _
+work_tried : (work : Option HandlerWork) (w : Width) (p : Proc) → TriedFrom 113 p (work_phrase work w p)
+work_tried (Some (Enter vector)) w p = tried_simply 30 113 p [] _ (omega arith) (plain_deliver p [] (asked_for vector))
+work_tried (Some EnterOnOverflow) w p = tried_simply 30 113 p [] _ (omega arith) (on_overflow_plain p)
+work_tried (Some Leave) w p = tried_returned p w
+work_tried None w p = tried_faults 113 (Ordinary p.gdtr) (KeepsRun p) p [] _
 
-pub exec_plain : (op : Op) (p : Proc) → PlainFrom 30 p (exec_phrase op p)
+pub exec_tried : (op : Op) (p : Proc) → TriedFrom 113 p (exec_phrase op p)
 unfolding exec_phrase
-exec_plain op p = work_plain (handler_work_of op.name op.args.items) op.width p
+exec_tried op p = work_tried (handler_work_of op.name op.args.items) op.width p

@@ -1,4 +1,4 @@
--- The operations of this crate: INT n, INT3, INTO and IRET.
+-- The operations of this crate: INT n, INT3, INTO and IRET, which may end in a task switch.
 use Rattle.std.specs.Prelude.{ℕ, Bool, true, false, is_some, List, [], ◌∷◌, ◌%◌, if◌then◌else◌, Option, Some, None}
 use Rattle.m386_base.specs.declared.exception.Exception.TheVariants as exceptions
 use Rattle.m386_base.specs.declared.flags.Flag.TheVariants as flags
@@ -14,6 +14,8 @@ use Rattle.m386_opmap.specs.declared.op.Op.{Op}
 use Rattle.m386_state.specs.declared.event.Cause.TheVariants.{Soft}
 use Rattle.m386_state.specs.declared.event.Event.{Event}
 use Rattle.m386_state.specs.declared.proc.Proc.{Proc}
+use Rattle.m386_transfer.specs.declared.executed.Executed.{Executed}
+use Rattle.m386_transfer.specs.Executed.{simply}
 use Rattle.m386_deliver.specs.Deliver.{deliver_phrase}
 use Rattle.m386_deliver.specs.Iret.{returned_phrase}
 use Rattle.m386_deliver.specs.declared.exec.HandlerWork.{HandlerWork}
@@ -60,13 +62,14 @@ unfoldable pub on_overflow_phrase : Proc → Phrase Proc
 on_overflow_phrase p = if has_flag flags.Overflow p.eflags then deliver_phrase p (asked_for (vector_of exceptions.Overflow)) else Done p
 
 -- one case for each kind of work
-abbrev pub work_phrase : Option HandlerWork → Width → Proc → Phrase Proc
-work_phrase (Some (Enter vector)) w p = deliver_phrase p (asked_for vector)
-work_phrase (Some EnterOnOverflow) w p = on_overflow_phrase p
+abbrev pub work_phrase : Option HandlerWork → Width → Proc → Phrase Executed
+work_phrase (Some (Enter vector)) w p = simply (deliver_phrase p (asked_for vector))
+work_phrase (Some EnterOnOverflow) w p = simply (on_overflow_phrase p)
 work_phrase (Some Leave) w p = returned_phrase p w
 work_phrase None w p = Faults undefined_opcode_of
 
--- An operation of this crate, with EIP behind it.
+-- An operation of this crate, with EIP behind it. A fault is seen in the state before the instruction, and what a switch came to is
+-- found.
 -- Source: Intel 80386 PRM 17.2.2.11, INT/INTO, IRET
-unfoldable pub exec_phrase : Op → Proc → Phrase Proc
+unfoldable pub exec_phrase : Op → Proc → Phrase Executed
 exec_phrase op p = work_phrase (handler_work_of op.name op.args.items) op.width p

@@ -1,17 +1,20 @@
--- The return from a handler.
-use Rattle.std.specs.Prelude.{ℕ, ◌%◌, ◌^◌, if◌then◌else◌}
+-- The return from a handler, and from a nested task.
+use Rattle.std.specs.Prelude.{ℕ, false, ◌%◌, ◌^◌, if◌then◌else◌}
 use Rattle.m386_base.specs.declared.ask.Role.TheVariants as roles
 use Rattle.m386_base.specs.declared.flags.Flag.TheVariants.{NestedTask}
+use Rattle.m386_base.specs.declared.kind.SwitchKind.TheVariants.{Iret}
 use Rattle.m386_base.specs.declared.number.Width.{Width}
-use Rattle.m386_base.specs.Exceptions.{general_protection_of}
 use Rattle.m386_base.specs.Flags.{has_flag}
-use Rattle.m386_base.specs.Phrase.{Phrase, Done, Faults, ◌>>=◌}
+use Rattle.m386_base.specs.Phrase.{Phrase, Done, ◌>>=◌}
 use Rattle.m386_state.specs.declared.proc.Proc.{Proc}
 use Rattle.m386_access.specs.After.{with_flags}
 use Rattle.m386_stack.specs.declared.stack.Stack.{Stack}
 use Rattle.m386_stack.specs.Flags.{popped_flags}
 use Rattle.m386_stack.specs.Names.{size_of}
 use Rattle.m386_stack.specs.Stack.{moved, own_stack, pop_phrase}
+use Rattle.m386_transfer.specs.declared.executed.Brief.{Brief}
+use Rattle.m386_transfer.specs.declared.executed.Executed.{Executed}
+use Rattle.m386_transfer.specs.Executed.{simply, switching_phrase}
 use Rattle.m386_transfer.specs.Return.{return_phrase}
 
 -- the return to CS:EIP, with the flags of an image as the level of the handler may change them
@@ -30,7 +33,12 @@ handler_left_phrase p len = do
   selector ← pop_phrase roles.Pop (moved (own_stack p) len) len
   image_phrase p (selector % 2 ^ 16) eip (moved (moved (own_stack p) len) len) len
 
--- IRET.
--- Source: Intel 80386 PRM 17.2.2.11, IRET; with NT set: docs/DECISIONS.md, "Task switches before they are built"
-unfoldable pub returned_phrase : Proc → Width → Phrase Proc
-returned_phrase p w = if has_flag NestedTask p.eflags then Faults general_protection_of else handler_left_phrase p (size_of w)
+-- The switch back to the task that a nested one names as its back link, which the switch reads.
+-- Source: Intel 80386 PRM 7.6
+abbrev pub back_brief : Brief
+back_brief = record { kind = Iret; selector = 0; direct = false; ext = false }
+
+-- IRET: with NT set it is a task switch, and makes no other cycle.
+-- Source: Intel 80386 PRM 17.2.2.11, IRET; 7.6
+unfoldable pub returned_phrase : Proc → Width → Phrase Executed
+returned_phrase p w = if has_flag NestedTask p.eflags then switching_phrase p back_brief else simply (handler_left_phrase p (size_of w))

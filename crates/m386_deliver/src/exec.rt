@@ -1,19 +1,23 @@
 //! The operations of this crate: INT n, INT3, INTO and IRET.
-ghost use Rattle.std.specs.Prelude.{◌≡◌, false, OnErr};
-ghost use Rattle.m386_base.specs.Phrase.{Performs, it};
+ghost use Rattle.std.specs.Prelude.{◌≡◌, false};
+ghost use Rattle.m386_access.specs.Ran.{ran};
+ghost use Rattle.m386_base.specs.Phrase.{Performs, PerformsOrStops, PerformsRan, it};
+ghost use Rattle.m386_transfer.specs.Executed.{told};
 ghost use Rattle.m386_deliver.specs.Exec.{vector_in, handler_work_of, asked_for, work_delivers, delivers, takes, on_overflow_phrase, work_phrase, exec_phrase};
 
 use crate::deliver::delivered;
 use crate::iret::returned;
+use m386_access::ran::Ran;
 use m386_base::bus::Bus;
 use m386_base::exception::{Exception, undefined_opcode};
-use m386_base::fault::Break;
+use m386_base::fault::{Break, Stop};
 use m386_base::flags::{Flag, has_flag};
 use m386_base::number::Width;
 use m386_opmap::name::Name;
 use m386_opmap::op::{Arg, Op};
 use m386_state::event::{Cause, Event};
 use m386_state::proc::Proc;
+use m386_transfer::executed::{Executed, as_ran, ran_to};
 
 /// What an operation does.
 #[derive(Clone, Copy, Debug, PartialEq, Eq)]
@@ -101,38 +105,69 @@ fn enter_on_overflow<B: Bus>(p: &Proc, bus: &mut B) -> Result<Proc, Break>
 }
 
 /// One case for each kind of work.
-#[tactic(auto, using(m386_base::proofs::Phrases::calls))]
+#[tactic(auto, using(m386_base::proofs::Phrases::calls), unfolding(m386_transfer::specs::Executed::simply))]
 fn perform<B: Bus>(
     work: Option<HandlerWork>,
     width: Width,
     p: &Proc,
     bus: &mut B,
-) -> Result<Proc, Break>
+) -> Result<Executed, Break>
     requires free { (B.view bus.old).kept ≡ false }
     ensures cycles { Performs (work_phrase work width p.now) (B.view bus.old) (B.view bus.new) it result }
     ensures free { (B.view bus.new).kept ≡ false }
 {
     match work {
-        Some(HandlerWork::Enter(vector)) => delivered(p, bus, &asked_for(vector)),
-        Some(HandlerWork::EnterOnOverflow) => enter_on_overflow(p, bus),
+        Some(HandlerWork::Enter(vector)) => Ok(ran_to(delivered(p, bus, &asked_for(vector))?)),
+        Some(HandlerWork::EnterOnOverflow) => Ok(ran_to(enter_on_overflow(p, bus)?)),
         Some(HandlerWork::Leave) => returned(p, bus, width),
         None => Err(Break::Fault(undefined_opcode())),
     }
 }
 
-/// Executes an operation of this crate, with EIP behind it, where a handler returns to. At `Err` the state is as before.
+/// An operation of this crate, from a state with EIP behind it, where a handler returns to. IRET with NT set comes to a switch, and
+/// answers what that came to; a fault is one of the others, and is seen in the state before the instruction.
 #[tactic(auto, using(m386_base::proofs::Phrases::calls), unfolding(crate::specs::Exec::exec_phrase))]
-pub fn exec<B: Bus>(p: &mut Proc, op: &Op, bus: &mut B) -> Result<(), Break>
+pub fn attempt<B: Bus>(p: &Proc, op: &Op, bus: &mut B) -> Result<Executed, Break>
     requires free { (B.view bus.old).kept ≡ false }
-    ensures cycles { Performs (exec_phrase op.now p.old) (B.view bus.old) (B.view bus.new) (λ _. p.new) result }
+    ensures cycles { Performs (exec_phrase op.now p.now) (B.view bus.old) (B.view bus.new) it result }
     ensures free { (B.view bus.new).kept ≡ false }
-    ensures before { OnErr result (p.new ≡ p.old) }
 {
-    *p = perform(
+    perform(
         handler_work_of(op.name, op.args.as_slice()),
         op.width,
         p,
         bus,
-    )?;
-    Ok(())
+    )
+}
+
+/// The state that an operation left, or the one before it, and the fault that is seen in it.
+#[tactic(auto, using(m386_base::proofs::Phrases::caught), unfolding(m386_transfer::specs::Executed::told))]
+fn ended<B: Bus>(p: &Proc, op: &Op, bus: &mut B) -> Result<Ran, Stop>
+    requires free { (B.view bus.old).kept ≡ false }
+    ensures cycles { PerformsOrStops (told p.now (exec_phrase op.now p.now)) (B.view bus.old) (B.view bus.new) it result }
+    ensures free { (B.view bus.new).kept ≡ false }
+{
+    match attempt(p, op, bus) {
+        Ok(executed) => Ok(as_ran(&executed)),
+        Err(Break::Fault(fault)) => Ok(Ran {
+            after: *p,
+            fault: Some(fault),
+        }),
+        Err(Break::Stop(stop)) => Err(stop),
+    }
+}
+
+/// Executes an operation of this crate, with EIP behind it, where it makes no difference in which state a fault is seen. At a fault the
+/// state is the one that it is seen in, and at `Err(Stop)` it is as before.
+pub fn exec<B: Bus>(p: &mut Proc, op: &Op, bus: &mut B) -> Result<(), Break>
+    requires free { (B.view bus.old).kept ≡ false }
+    ensures cycles { PerformsRan (told p.old (exec_phrase op.now p.old)) (B.view bus.old) (B.view bus.new) ran p.old p.new result }
+    ensures free { (B.view bus.new).kept ≡ false }
+{
+    let ran = ended(p, op, bus)?;
+    *p = ran.after;
+    match ran.fault {
+        Some(fault) => Err(Break::Fault(fault)),
+        None => Ok(()),
+    }
 }

@@ -1,5 +1,5 @@
 -- The law of each kind of transfer.
-use Rattle.std.proofs.Common.{◌≡◌, ℕ, zero, suc, ◌*◌, ◌%◌, ◌^◌, ◌<◌, Bool, true, false, if◌then◌else◌, List, [], ◌∷◌, Option, Some, None, ◌-◌, nat_le, nat_lt, arith, refl}
+use Rattle.std.proofs.Common.{◌≡◌, ℕ, zero, suc, ◌+◌, ◌*◌, ◌%◌, ◌^◌, ◌<◌, Bool, true, false, if◌then◌else◌, List, [], ◌∷◌, Option, Some, None, ◌-◌, nat_le, nat_lt, arith, refl}
 use Rattle.m386_base.specs.declared.ask.Ask.{Ask}
 use Rattle.m386_base.specs.declared.ask.Role.TheVariants as roles
 use Rattle.m386_base.specs.declared.desc.Desc.{Desc}
@@ -9,6 +9,7 @@ use Rattle.m386_base.specs.Phrase.{Phrase, ◌>>=◌}
 use Rattle.m386_base.specs.Plain.{Plain}
 use Rattle.m386_base.specs.Segments.{cs, ss}
 use Rattle.m386_base.proofs.Plain.{plain_bind, plain_done, plain_faults, plain_if, plain_within}
+use Rattle.m386_checks.specs.Holds.{is_start}
 use Rattle.m386_desc.specs.Selector.{names_ldt}
 use Rattle.m386_opmap.specs.declared.op.Arg.{Arg}
 use Rattle.m386_opmap.specs.declared.op.Arg.TheVariants.{Rel, Mem, Far}
@@ -16,16 +17,18 @@ use Rattle.m386_opmap.specs.declared.op.Op.{Op}
 use Rattle.m386_state.specs.declared.proc.Proc.{Proc}
 use Rattle.m386_state.specs.declared.segment.TableReg.{TableReg}
 use Rattle.m386_state.specs.Start.{cpl_of, seg_at}
-use Rattle.m386_access.specs.After.{register_of}
-use Rattle.m386_access.specs.Ordinary.{Ordinary, Keeps, KeepsRan, PlainFrom, PlainRanFrom, is_read_role}
-use Rattle.m386_access.specs.Ran.{plainly, whole}
+use Rattle.m386_access.specs.Address.{segment_number, offset_of}
+use Rattle.m386_access.specs.After.{register_of, len_of}
+use Rattle.m386_access.specs.Ordinary.{Ordinary, Keeps, PlainFrom, is_read_role}
 use Rattle.m386_access.specs.Registers.{esp}
 use Rattle.m386_access.proofs.Phrases.{plain, Stays, keeps_stays, stays_same, Anything}
 use Rattle.m386_segload.specs.declared.rules.Candidate.{Candidate}
 use Rattle.m386_segload.specs.Rules.{first_broken, call_gate_rules, direct_rules, target_rules, jump_target_rules}
 use Rattle.m386_segload.specs.Segments.{or_zeros}
 use Rattle.m386_segload.specs.Tables.{table_role}
-use Rattle.m386_segload.proofs.Loads.{Found, plain_need, take_then, judge_then, load_desc_then}
+use Rattle.m386_segload.specs.Load.{load_desc_phrase}
+use Rattle.m386_segload.specs.Pointer.{read_pointer_phrase}
+use Rattle.m386_segload.proofs.Loads.{Found, plain_need, take_then, judge_then, plain_load_desc}
 use Rattle.m386_stack.specs.declared.stack.Stack.{Stack}
 use Rattle.m386_stack.specs.Names.{size_of}
 use Rattle.m386_stack.specs.Stack.{own_stack, put_top_phrase, push_phrase}
@@ -34,10 +37,12 @@ use Rattle.m386_transfer.specs.declared.place.Target.{Target}
 use Rattle.m386_transfer.specs.Gate.{gate_of}
 use Rattle.m386_transfer.specs.Place.{target_fault}
 use Rattle.m386_transfer.proofs.Plain.{stack_for_then, stays_placed, return_plain}
+use Rattle.m386_transfer.proofs.Tried.{tried_if, tried_faults, tried_bind, tried_simply, tried_switch, ReadsAlone, reads_since, reads_then, reads_done, reads_faults, read_alone, load_desc_alone}
+use Rattle.m386_transfer.specs.Tried.{AreReads, Tried, KeepsRun, TriedFrom}
 use Rattle.m386_gates.specs.Calls.{released_of, enter_phrase, call_phrase, return_near_phrase, return_by, return_phrase}
 use Rattle.m386_gates.specs.Copies.{copy_phrase, copies_phrase, carry_phrase, carried_phrase}
 use Rattle.m386_gates.specs.Exec.{action_phrase, exec_phrase}
-use Rattle.m386_gates.specs.Far.{pointer_in, pointer_phrase, linked_phrase, direct_target, direct_phrase, arrive_phrase, through_stack_phrase, gate_at, through_phrase, gate_phrase, is_call_gate, by_type_phrase, far_candidate, far_to_phrase, far_phrase}
+use Rattle.m386_gates.specs.Far.{pointer_in, pointer_phrase, linked_phrase, direct_target, direct_phrase, arrive_phrase, through_stack_phrase, gate_at, through_phrase, gate_phrase, is_call_gate, is_task, switch_kind_of, task_brief, by_type_phrase, far_candidate, far_to_phrase, far_phrase}
 use Rattle.m386_gates.specs.Near.{near_target, near_phrase, target_of_args, target_phrase, jump_phrase, branch_phrase, counted_down}
 use Rattle.m386_gates.specs.Returns.{behind_one, behind_two, return_far_phrase, far_return_by, far_return_phrase}
 use Rattle.m386_gates.specs.Transfer.{transfer_of, transfer_phrase}
@@ -170,11 +175,17 @@ gate_plain : (p : Proc) (far : FarKind) (c : Candidate) (ts : List Ask) → Plai
 unfolding gate_phrase
 gate_plain p far c ts = plain_need p.gdtr 146 (Keeps p) ts (first_broken call_gate_rules c) _ (through_plain far p (or_zeros c.desc) ts)
 
-by_type_plain : (p : Proc) (far : FarKind) (w : Width) (offset : ℕ) (c : Candidate) (ts : List Ask) → Found p c.selector ts c.desc → Plain 146 (Ordinary p.gdtr) (Keeps p) ts (by_type_phrase p far w offset c)
+-- behind reads alone: the descriptor of the selector
+by_type_tried : (p : Proc) (far : FarKind) (w : Width) (offset : ℕ) (c : Candidate) (ts : List Ask) → Found p c.selector ts c.desc → AreReads ts → Tried 146 (Ordinary p.gdtr) (KeepsRun p) p ts (by_type_phrase p far w offset c)
 unfolding by_type_phrase
-by_type_plain p far w offset c ts f =
-    plain_if 146 (Ordinary p.gdtr) (Keeps p) ts (is_call_gate c.desc) _ _ (gate_plain p far c ts)
-    (plain_within 5 146 (Ordinary p.gdtr) (Keeps p) ts _ (omega arith) (five_direct p far w offset c ts f))
+by_type_tried p far w offset c ts f r =
+    tried_if 146 (Ordinary p.gdtr) (KeepsRun p) p ts (is_call_gate c.desc) _ _ (tried_simply 146 146 p ts _ (omega arith) (gate_plain p far c ts))
+    (tried_if 146 (Ordinary p.gdtr) (KeepsRun p) p ts (is_task c.desc) _ _ (tried_switch 146 (Ordinary p.gdtr) (KeepsRun p) p (task_brief far c.selector) ts (no_start far) (omega arith) r)
+    (tried_simply 5 146 p ts _ (omega arith) (five_direct p far w offset c ts f)))
+  where
+    no_start : (far : FarKind) → is_start (switch_kind_of far) ≡ false
+    no_start fars.Jump = refl
+    no_start fars.Call = refl
 
 table_role_reads : (s : ℕ) → is_read_role (table_role s) ≡ true
 table_role_reads s = go (names_ldt s)
@@ -183,34 +194,41 @@ table_role_reads s = go (names_ldt s)
     go true = refl
     go false = refl
 
-far_to_plain : (p : Proc) (far : FarKind) (w : Width) (to : FarPointer) (ts : List Ask) → Plain 150 (Ordinary p.gdtr) (Keeps p) ts (far_to_phrase p far w to)
+far_to_tried : (p : Proc) (far : FarKind) (w : Width) (to : FarPointer) (ts : List Ask) → AreReads ts → Tried 150 (Ordinary p.gdtr) (KeepsRun p) p ts (far_to_phrase p far w to)
 unfolding far_to_phrase
-far_to_plain p far w to ts =
-    load_desc_then p 150 (Keeps p) ts to.selector (table_role to.selector) _ refl (table_role_reads to.selector)
-    (λ us found f. by_type_plain p far w to.offset (far_candidate p to.selector found) us f)
+far_to_tried p far w to ts r =
+    let role = table_role to.selector in
+    tried_bind 4 150 (Ordinary p.gdtr) (λ us found. Found p to.selector us found × AreReads us) (KeepsRun p) p ts (load_desc_phrase p to.selector role) _ (omega arith)
+    (reads_since 4 (Ordinary p.gdtr) (Found p to.selector) ts (load_desc_phrase p to.selector role) r (load_desc_alone p to.selector role) (plain_load_desc p ts to.selector role (table_role_reads to.selector)))
+    (λ us found h. by_type_tried p far w to.offset (far_candidate p to.selector found) us h.0 h.1)
 
-far_plain : (far : FarKind) (op : Op) (p : Proc) → PlainFrom 154 p (far_phrase p far op)
+pointer_alone : (args : List Arg) (p : Proc) (w : Width) → ReadsAlone (pointer_in args p w)
+unfolding read_pointer_phrase
+pointer_alone (Far selector offset ∷ []) p w = reads_done _
+pointer_alone (Mem a ∷ []) p w =
+    reads_then _ _ (read_alone p roles.Operand (segment_number a.seg a.base) (offset_of p a) (len_of w)) (λ offset.
+    reads_then _ _ (read_alone p roles.Operand (segment_number a.seg a.base) ((offset_of p a + len_of w) % 2 ^ 32) 2) (λ selector. reads_done _))
+pointer_alone _ p w = reads_faults _ _
+
+far_tried : (far : FarKind) (op : Op) (p : Proc) → TriedFrom 154 p (far_phrase p far op)
 unfolding far_phrase pointer_phrase
-far_plain far op p =
-    plain_bind 4 154 (Ordinary p.gdtr) Anything (Keeps p) [] _ _ (omega arith) (four_pointer_in op.args.items p op.width) (λ us to o. far_to_plain p far op.width to us)
-
--- fewer cycles are within the bound of all
-within : (m : ℕ) (p : Proc) (t : Phrase Proc) → nat_le m 154 ≡ true → PlainFrom m p t → PlainFrom 154 p t
-within m p t l h = plain_within m 154 (Ordinary p.gdtr) (Keeps p) [] t (grind (arith, l)) h
+far_tried far op p =
+    tried_bind 4 154 (Ordinary p.gdtr) (λ us to. Anything us to × AreReads us) (KeepsRun p) p [] (pointer_in op.args.items p op.width) _ (omega arith)
+    (reads_since 4 (Ordinary p.gdtr) Anything [] (pointer_in op.args.items p op.width) tt (pointer_alone op.args.items p op.width) (four_pointer_in op.args.items p op.width))
+    (λ us to h. far_to_tried p far op.width to us h.1)
 
 -- each group, one line
-transfer_plain : (transfer : Transfer) (op : Op) (p : Proc) → PlainFrom 154 p (transfer_phrase transfer op p)
-transfer_plain (transfers.Near near) op p = within 2 p _ refl (near_plain near op p)
-transfer_plain transfers.Call op p = within 4 p _ refl (call_plain op p)
-transfer_plain transfers.Return op p = within 4 p _ refl (ret_plain op p)
-transfer_plain (transfers.Far far) op p = far_plain far op p
-transfer_plain transfers.FarReturn op p = within 18 p _ refl (far_return_plain op p)
+transfer_tried : (transfer : Transfer) (op : Op) (p : Proc) → TriedFrom 154 p (transfer_phrase transfer op p)
+transfer_tried (transfers.Near near) op p = tried_simply 2 154 p [] _ (omega arith) (near_plain near op p)
+transfer_tried transfers.Call op p = tried_simply 4 154 p [] _ (omega arith) (call_plain op p)
+transfer_tried transfers.Return op p = tried_simply 4 154 p [] _ (omega arith) (ret_plain op p)
+transfer_tried (transfers.Far far) op p = far_tried far op p
+transfer_tried transfers.FarReturn op p = tried_simply 18 154 p [] _ (omega arith) (far_return_plain op p)
 
-action_plain : (transfer : Option Transfer) (op : Op) (p : Proc) → PlainRanFrom 154 p (action_phrase transfer op p)
-unfolding plainly
-action_plain (Some transfer) op p = plain_bind 154 154 (Ordinary p.gdtr) (Keeps p) (KeepsRan p) [] (transfer_phrase transfer op p) whole (omega arith) (transfer_plain transfer op p) (λ us after k. plain_done 0 (Ordinary p.gdtr) (KeepsRan p) us _ k)
-action_plain None op p = search plain
+action_tried : (transfer : Option Transfer) (op : Op) (p : Proc) → TriedFrom 154 p (action_phrase transfer op p)
+action_tried (Some transfer) op p = transfer_tried transfer op p
+action_tried None op p = tried_faults 154 (Ordinary p.gdtr) (KeepsRun p) p [] _
 
-pub exec_plain : (op : Op) (p : Proc) → PlainRanFrom 154 p (exec_phrase op p)
+pub exec_tried : (op : Op) (p : Proc) → TriedFrom 154 p (exec_phrase op p)
 unfolding exec_phrase
-exec_plain op p = action_plain (transfer_of op.name) op p
+exec_tried op p = action_tried (transfer_of op.name) op p

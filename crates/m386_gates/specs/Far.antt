@@ -1,6 +1,8 @@
--- Far JMP and CALL: to code that the selector names itself, and through a call gate.
+-- Far JMP and CALL: to code that the selector names itself, through a call gate, and to a task.
 use Rattle.std.specs.Prelude.{ℕ, Bool, true, false, List, [], ◌∷◌, if◌then◌else◌, Option, Some, None}
 use Rattle.m386_base.specs.declared.desc.Desc.{Desc}
+use Rattle.m386_base.specs.declared.kind.SwitchKind.{SwitchKind}
+use Rattle.m386_base.specs.declared.kind.SwitchKind.TheVariants as switches
 use Rattle.m386_base.specs.declared.number.Width.{Width}
 use Rattle.m386_base.specs.declared.number.Width.TheVariants.{W32}
 use Rattle.m386_base.specs.Exceptions.{undefined_opcode_of}
@@ -8,7 +10,7 @@ use Rattle.m386_base.specs.Phrase.{Phrase, Done, Faults, ◌>>=◌}
 use Rattle.m386_base.specs.Segments.{cs}
 use Rattle.m386_desc.specs.declared.gate.Gate4.{Gate4}
 use Rattle.m386_desc.specs.declared.kind.Kind.{Kind}
-use Rattle.m386_desc.specs.declared.kind.Kind.TheVariants.{CallGate}
+use Rattle.m386_desc.specs.declared.kind.Kind.TheVariants.{CallGate, Tss}
 use Rattle.m386_desc.specs.Access.{kind_of}
 use Rattle.m386_desc.specs.Selector.{code_of}
 use Rattle.m386_opmap.specs.declared.op.Arg.{Arg}
@@ -24,7 +26,10 @@ use Rattle.m386_segload.specs.Tables.{place_for, table_role}
 use Rattle.m386_stack.specs.declared.stack.Stack.{Stack}
 use Rattle.m386_stack.specs.Names.{size_of}
 use Rattle.m386_stack.specs.Stack.{own_stack, pushes}
+use Rattle.m386_transfer.specs.declared.executed.Brief.{Brief}
+use Rattle.m386_transfer.specs.declared.executed.Executed.{Executed}
 use Rattle.m386_transfer.specs.declared.place.Target.{Target}
+use Rattle.m386_transfer.specs.Executed.{simply, switching_phrase}
 use Rattle.m386_transfer.specs.Gate.{gate_of}
 use Rattle.m386_transfer.specs.Place.{level_of, target_fault, stack_for_phrase, placed}
 use Rattle.m386_gates.specs.declared.far.Far.{Far}
@@ -96,10 +101,32 @@ abbrev pub is_call_gate : Option Desc → Bool
 is_call_gate None = false
 is_call_gate (Some d) = is_call_gate_kind (kind_of d)
 
--- By the type of what was found.
--- Source: Intel 80386 PRM 6.3.3; a TSS and a task gate: docs/DECISIONS.md, "Task gates before they are built"
-unfoldable pub by_type_phrase : Proc → Far → Width → ℕ → Candidate → Phrase Proc
-by_type_phrase p far w offset c = if is_call_gate c.desc then gate_phrase p far c else direct_phrase p far w offset c
+abbrev pub is_task_kind : Kind → Bool
+is_task_kind (Tss busy) = true
+is_task_kind _ = false
+
+-- a TSS, busy or available
+abbrev pub is_task : Option Desc → Bool
+is_task None = false
+is_task (Some d) = is_task_kind (kind_of d)
+
+-- what makes the switch
+abbrev pub switch_kind_of : Far → SwitchKind
+switch_kind_of Jump = switches.Jmp
+switch_kind_of Call = switches.Call
+
+-- The switch to a task whose TSS the selector names itself.
+-- Source: Intel 80386 PRM 7.5
+abbrev pub task_brief : Far → ℕ → Brief
+task_brief far selector = record { kind = switch_kind_of far; selector = selector; direct = true; ext = false }
+
+-- By the type of what was found. A switch reads the descriptor of its TSS anew.
+-- Source: Intel 80386 PRM 6.3.3, 7.5; a task gate: docs/DECISIONS.md, "Task gates before they are built"
+unfoldable pub by_type_phrase : Proc → Far → Width → ℕ → Candidate → Phrase Executed
+by_type_phrase p far w offset c =
+    if is_call_gate c.desc then simply (gate_phrase p far c)
+    else if is_task c.desc then switching_phrase p (task_brief far c.selector)
+    else simply (direct_phrase p far w offset c)
 
 -- what the rules for a selector are read over
 abbrev pub far_candidate : Proc → ℕ → Option Desc → Candidate
@@ -107,12 +134,12 @@ far_candidate p selector found = candidate_for (cpl_of p) (code_of selector fals
 
 -- By its pointer. The descriptor is read before any rule is tested.
 -- Source: Intel 80386 PRM 17.2.2.11, CALL, JMP; the order: docs/DECISIONS.md, "Calls and returns"
-unfoldable pub far_to_phrase : Proc → Far → Width → FarPointer → Phrase Proc
+unfoldable pub far_to_phrase : Proc → Far → Width → FarPointer → Phrase Executed
 far_to_phrase p far w to = do
   found ← load_desc_phrase p to.selector (table_role to.selector)
   by_type_phrase p far w to.offset (far_candidate p to.selector found)
 
 -- Far JMP or CALL.
 -- Source: Intel 80386 PRM 17.2.2.11, CALL, JMP
-unfoldable pub far_phrase : Proc → Far → Op → Phrase Proc
+unfoldable pub far_phrase : Proc → Far → Op → Phrase Executed
 far_phrase p far op = pointer_phrase p op >>= (λ to. far_to_phrase p far op.width to)

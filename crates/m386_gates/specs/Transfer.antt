@@ -5,6 +5,8 @@ use Rattle.m386_opmap.specs.declared.name.Name.{Name}
 use Rattle.m386_opmap.specs.declared.name.Name.TheVariants as names
 use Rattle.m386_opmap.specs.declared.op.Op.{Op}
 use Rattle.m386_state.specs.declared.proc.Proc.{Proc}
+use Rattle.m386_transfer.specs.declared.executed.Executed.{Executed}
+use Rattle.m386_transfer.specs.Executed.{simply}
 use Rattle.m386_gates.specs.declared.far.Far.TheVariants as fars
 use Rattle.m386_gates.specs.declared.near.Near.{Near}
 use Rattle.m386_gates.specs.declared.transfer.Transfer.{Transfer}
@@ -34,9 +36,9 @@ unfoldable pub transfer_of : Name → Option Transfer
 transfer_of name = near_or_named (near_of name) name
 
 -- a transfer
-abbrev pub transfer_phrase : Transfer → Op → Proc → Phrase Proc
-transfer_phrase (transfers.Near near) op p = near_phrase near op p
-transfer_phrase transfers.Call op p = call_phrase p op
-transfer_phrase transfers.Return op p = return_phrase p op
+abbrev pub transfer_phrase : Transfer → Op → Proc → Phrase Executed
+transfer_phrase (transfers.Near near) op p = simply (near_phrase near op p)
+transfer_phrase transfers.Call op p = simply (call_phrase p op)
+transfer_phrase transfers.Return op p = simply (return_phrase p op)
 transfer_phrase (transfers.Far far) op p = far_phrase p far op
-transfer_phrase transfers.FarReturn op p = far_return_phrase p op
+transfer_phrase transfers.FarReturn op p = simply (far_return_phrase p op)

@@ -1,16 +1,18 @@
 //! The operations of this crate.
-ghost use Rattle.std.specs.Prelude.{◌≡◌, false, OnErr};
-ghost use Rattle.m386_access.specs.Ran.{ran, told};
-ghost use Rattle.m386_base.specs.Phrase.{Performs, PerformsRan, it};
+ghost use Rattle.std.specs.Prelude.{◌≡◌, false};
+ghost use Rattle.m386_access.specs.Ran.{ran};
+ghost use Rattle.m386_base.specs.Phrase.{Performs, PerformsOrStops, PerformsRan, it};
 ghost use Rattle.m386_gates.specs.Exec.{takes, exec_phrase, action_phrase};
+ghost use Rattle.m386_transfer.specs.Executed.{told};
 
 use crate::transfer::{Transfer, do_transfer, transfer_of};
-use m386_access::ran::{Ran, without_fault};
+use m386_access::ran::Ran;
 use m386_base::bus::Bus;
 use m386_base::exception::undefined_opcode;
-use m386_base::fault::{Break, Fault};
+use m386_base::fault::{Break, Stop};
 use m386_opmap::op::Op;
 use m386_state::proc::Proc;
+use m386_transfer::executed::{Executed, as_ran};
 
 /// Whether an operation is one of this crate's.
 #[tactic(auto, unfolding(crate::specs::Exec::takes))]
@@ -20,48 +22,63 @@ pub fn takes(op: &Op) -> bool
     transfer_of(op.name).is_some()
 }
 
-/// A transfer leaves no fault in a new state.
-#[tactic(auto, using(m386_base::proofs::Phrases::calls), unfolding(m386_access::specs::Ran::plainly))]
-fn act<B: Bus>(p: &Proc, bus: &mut B, transfer: Option<Transfer>, op: &Op) -> Result<Ran, Break>
+/// An operation by its transfer, where it is one.
+#[tactic(auto, using(m386_base::proofs::Phrases::calls))]
+fn act<B: Bus>(
+    p: &Proc,
+    bus: &mut B,
+    transfer: Option<Transfer>,
+    op: &Op,
+) -> Result<Executed, Break>
     requires free { (B.view bus.old).kept ≡ false }
     ensures cycles { Performs (action_phrase transfer op.now p.now) (B.view bus.old) (B.view bus.new) it result }
     ensures free { (B.view bus.new).kept ≡ false }
 {
     match transfer {
-        Some(transfer) => {
-            let after = do_transfer(p, bus, transfer, op)?;
-            Ok(without_fault(after))
-        }
+        Some(transfer) => do_transfer(p, bus, transfer, op),
         None => Err(Break::Fault(undefined_opcode())),
     }
 }
 
-/// Executes an operation of this crate, with EIP behind it. `Ok(Some(fault))`: the fault is seen in the state that it left.
-/// At `Err` the state is as before.
+/// An operation of this crate, from a state with EIP behind it. A far JMP or CALL to a TSS comes to a switch, and answers what that
+/// came to; a fault is one of the others, and is seen in the state before the instruction.
 #[tactic(auto, using(m386_base::proofs::Phrases::calls), unfolding(crate::specs::Exec::exec_phrase))]
-pub fn attempt<B: Bus>(p: &mut Proc, op: &Op, bus: &mut B) -> Result<Option<Fault>, Break>
+pub fn attempt<B: Bus>(p: &Proc, op: &Op, bus: &mut B) -> Result<Executed, Break>
     requires free { (B.view bus.old).kept ≡ false }
-    ensures cycles { Performs (exec_phrase op.now p.old) (B.view bus.old) (B.view bus.new) (ran p.new) result }
+    ensures cycles { Performs (exec_phrase op.now p.now) (B.view bus.old) (B.view bus.new) it result }
     ensures free { (B.view bus.new).kept ≡ false }
-    ensures before { OnErr result (p.new ≡ p.old) }
 {
-    let ended = act(p, bus, transfer_of(op.name), op)?;
-    *p = ended.after;
-    Ok(ended.fault)
+    act(p, bus, transfer_of(op.name), op)
 }
 
-/// The same, where it makes no difference in which state a fault is seen. At a fault the state is the one that it is seen in,
-/// and at `Err(Stop)` it is as before.
-#[tactic(auto, using(m386_base::proofs::Phrases::caught), unfolding(m386_access::specs::Ran::told))]
+/// The state that an operation left, or the one before it, and the fault that is seen in it.
+#[tactic(auto, using(m386_base::proofs::Phrases::caught), unfolding(m386_transfer::specs::Executed::told))]
+fn ended<B: Bus>(p: &Proc, op: &Op, bus: &mut B) -> Result<Ran, Stop>
+    requires free { (B.view bus.old).kept ≡ false }
+    ensures cycles { PerformsOrStops (told p.now (exec_phrase op.now p.now)) (B.view bus.old) (B.view bus.new) it result }
+    ensures free { (B.view bus.new).kept ≡ false }
+{
+    match attempt(p, op, bus) {
+        Ok(executed) => Ok(as_ran(&executed)),
+        Err(Break::Fault(fault)) => Ok(Ran {
+            after: *p,
+            fault: Some(fault),
+        }),
+        Err(Break::Stop(stop)) => Err(stop),
+    }
+}
+
+/// Executes an operation of this crate, with EIP behind it, where it makes no difference in which state a fault is seen. At a fault the
+/// state is the one that it is seen in, and at `Err(Stop)` it is as before.
 pub fn exec<B: Bus>(p: &mut Proc, op: &Op, bus: &mut B) -> Result<(), Break>
     requires free { (B.view bus.old).kept ≡ false }
     ensures cycles { PerformsRan (told p.old (exec_phrase op.now p.old)) (B.view bus.old) (B.view bus.new) ran p.old p.new result }
     ensures free { (B.view bus.new).kept ≡ false }
 {
-    match attempt(p, op, bus) {
-        Ok(None) => Ok(()),
-        Ok(Some(fault)) => Err(Break::Fault(fault)),
-        Err(Break::Fault(fault)) => Err(Break::Fault(fault)),
-        Err(Break::Stop(stop)) => Err(Break::Stop(stop)),
+    let ran = ended(p, op, bus)?;
+    *p = ran.after;
+    match ran.fault {
+        Some(fault) => Err(Break::Fault(fault)),
+        None => Ok(()),
     }
 }

@@ -1,7 +1,9 @@
-//! Far JMP and CALL: to code that the selector names itself, and through a call gate (PRM 6.3.3, 6.3.4; 17.2.2.11, CALL, JMP).
+//! Far JMP and CALL: to code that the selector names itself, through a call gate, and to a task (PRM 6.3.3, 6.3.4, 7.5; 17.2.2.11, CALL,
+//! JMP).
 ghost use Rattle.std.specs.Prelude.{◌≡◌, ◌<◌, false, is_some};
 ghost use Rattle.m386_base.specs.Phrase.{Performs, it};
-ghost use Rattle.m386_gates.specs.Far.{pointer_phrase, linked_phrase, arrive_phrase, direct_phrase, gate_target_phrase, through_stack_phrase, through_phrase, gate_phrase, is_call_gate, by_type_phrase, far_to_phrase, far_phrase};
+ghost use Rattle.m386_transfer.specs.Executed.{switching_phrase};
+ghost use Rattle.m386_gates.specs.Far.{pointer_phrase, linked_phrase, arrive_phrase, direct_phrase, gate_target_phrase, through_stack_phrase, through_phrase, gate_phrase, is_call_gate, is_task, switch_kind_of, task_brief, by_type_phrase, far_to_phrase, far_phrase};
 
 use crate::copies::carried;
 use crate::near::near_target;
@@ -10,6 +12,7 @@ use m386_base::bus::{Bus, leave};
 use m386_base::desc::Desc;
 use m386_base::exception::undefined_opcode;
 use m386_base::fault::Break;
+use m386_base::kind::SwitchKind;
 use m386_base::number::Width;
 use m386_base::segments::CS;
 use m386_desc::access::kind;
@@ -28,6 +31,7 @@ use m386_segload::tables::{place_for, table_role};
 use m386_stack::names::size_of;
 use m386_stack::stack::{Stack, own_stack, push_all};
 use m386_state::proc::Proc;
+use m386_transfer::executed::{Brief, Executed, make_switch, ran_to};
 use m386_transfer::gate::gate_of;
 use m386_transfer::place::{Target, level_of, placed, stack_for, target_fault};
 
@@ -206,8 +210,45 @@ fn is_call_gate(found: Option<Desc>) -> bool
     }
 }
 
-/// By the type of what was found. A TSS and a task gate count as another type, as long as no task switch is built.
-#[tactic(auto, using(m386_base::proofs::Phrases::calls), unfolding(crate::specs::Far::by_type_phrase))]
+/// Whether a TSS was found, busy or available.
+fn is_task(found: Option<Desc>) -> bool
+    ensures { result ≡ is_task found }
+{
+    match found {
+        Some(desc) => matches!(kind(&desc), Kind::Tss { .. }),
+        None => false,
+    }
+}
+
+/// What makes the switch.
+fn switch_kind_of(far: Far) -> SwitchKind
+    ensures { result ≡ switch_kind_of far }
+{
+    match far {
+        Far::Jump => SwitchKind::Jmp,
+        Far::Call => SwitchKind::Call,
+    }
+}
+
+/// The switch to a task whose TSS the selector names itself. The bus is freed, and the descriptor is read anew.
+#[tactic(auto, using(m386_base::proofs::Phrases::held))]
+fn to_task<B: Bus>(p: &Proc, bus: &mut B, far: Far, c: &Candidate) -> Result<Executed, Break>
+    requires kept { (B.view bus.old).kept ≡ is_some c.now.desc }
+    ensures cycles { Performs (switching_phrase p.now (task_brief far c.now.selector)) (B.view bus.old) (B.view bus.new) it result }
+    ensures free { (B.view bus.new).kept ≡ false }
+{
+    leave(bus);
+    let brief = Brief {
+        kind: switch_kind_of(far),
+        selector: c.selector,
+        direct: true,
+        ext: false,
+    };
+    make_switch(p, bus, brief)
+}
+
+/// By the type of what was found. A task gate counts as another type, as long as none is built.
+#[tactic(auto, using(m386_base::proofs::Phrases::calls), unfolding(crate::specs::Far::by_type_phrase, m386_transfer::specs::Executed::simply))]
 fn by_type<B: Bus>(
     p: &Proc,
     bus: &mut B,
@@ -215,15 +256,20 @@ fn by_type<B: Bus>(
     width: Width,
     offset: u32,
     c: &Candidate,
-) -> Result<Proc, Break>
+) -> Result<Executed, Break>
     requires kept { (B.view bus.old).kept ≡ is_some c.now.desc }
     ensures cycles { Performs (by_type_phrase p.now far width offset c.now) (B.view bus.old) (B.view bus.new) it result }
     ensures free { (B.view bus.new).kept ≡ false }
 {
     if is_call_gate(c.desc) {
-        return gate(p, bus, far, c);
+        let after = gate(p, bus, far, c)?;
+        return Ok(ran_to(after));
     }
-    direct(p, bus, far, width, offset, c)
+    if is_task(c.desc) {
+        return to_task(p, bus, far, c);
+    }
+    let after = direct(p, bus, far, width, offset, c)?;
+    Ok(ran_to(after))
 }
 
 /// A far transfer by its pointer. The descriptor is read before any rule is tested.
@@ -234,7 +280,7 @@ fn far_to<B: Bus>(
     far: Far,
     width: Width,
     pointer: FarPointer,
-) -> Result<Proc, Break>
+) -> Result<Executed, Break>
     requires free { (B.view bus.old).kept ≡ false }
     ensures cycles { Performs (far_to_phrase p.now far width pointer) (B.view bus.old) (B.view bus.new) it result }
     ensures free { (B.view bus.new).kept ≡ false }
@@ -245,9 +291,14 @@ fn far_to<B: Bus>(
     by_type(p, bus, far, width, pointer.offset, &c)
 }
 
-/// Far JMP or CALL. A fault comes exactly by the first rule that is broken.
+/// Far JMP or CALL. A fault comes exactly by the first rule that is broken. To a TSS it is a task switch, whatever it comes to.
 #[tactic(auto, using(m386_base::proofs::Phrases::calls), unfolding(crate::specs::Far::far_phrase))]
-pub(crate) fn transfer_far<B: Bus>(p: &Proc, bus: &mut B, far: Far, op: &Op) -> Result<Proc, Break>
+pub(crate) fn transfer_far<B: Bus>(
+    p: &Proc,
+    bus: &mut B,
+    far: Far,
+    op: &Op,
+) -> Result<Executed, Break>
     requires free { (B.view bus.old).kept ≡ false }
     ensures cycles { Performs (far_phrase p.now far op.now) (B.view bus.old) (B.view bus.new) it result }
     ensures free { (B.view bus.new).kept ≡ false }

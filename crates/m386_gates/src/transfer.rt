@@ -12,6 +12,7 @@ use m386_base::fault::Break;
 use m386_opmap::name::Name;
 use m386_opmap::op::Op;
 use m386_state::proc::Proc;
+use m386_transfer::executed::{Executed, ran_to};
 
 /// A transfer.
 #[derive(Clone, Copy)]
@@ -54,22 +55,22 @@ pub fn transfer_of(name: Name) -> Option<Transfer>
 }
 
 /// A transfer.
-#[tactic(auto, using(m386_base::proofs::Phrases::calls))]
+#[tactic(auto, using(m386_base::proofs::Phrases::calls), unfolding(m386_transfer::specs::Executed::simply))]
 pub(crate) fn do_transfer<B: Bus>(
     p: &Proc,
     bus: &mut B,
     transfer: Transfer,
     op: &Op,
-) -> Result<Proc, Break>
+) -> Result<Executed, Break>
     requires free { (B.view bus.old).kept ≡ false }
     ensures cycles { Performs (transfer_phrase transfer op.now p.now) (B.view bus.old) (B.view bus.new) it result }
     ensures free { (B.view bus.new).kept ≡ false }
 {
     match transfer {
-        Transfer::Near(near) => transfer_near(p, bus, near, op),
-        Transfer::Call => call(p, bus, op),
-        Transfer::Return => return_to_caller(p, bus, op),
+        Transfer::Near(near) => Ok(ran_to(transfer_near(p, bus, near, op)?)),
+        Transfer::Call => Ok(ran_to(call(p, bus, op)?)),
+        Transfer::Return => Ok(ran_to(return_to_caller(p, bus, op)?)),
         Transfer::Far(far) => transfer_far(p, bus, far, op),
-        Transfer::FarReturn => far_return(p, bus, op),
+        Transfer::FarReturn => Ok(ran_to(far_return(p, bus, op)?)),
     }
 }

@@ -1,16 +1,17 @@
--- No step makes a cycle of a task switch, and each keeps TR.
-use Rattle.std.proofs.Common.{◌≡◌, ℕ, zero, suc, ◌++◌, List, [], ◌∷◌, refl, sym, subst, ap, ◌⊎◌, inl, inr, Bool, true, false, cond, ◌==◌, ◌&&◌, ◌||◌, nat_le, nat_lt, ◌-◌, ◌%◌, ◌+◌, ◌^◌, Option, Some, None}
+-- What a step keeps in which no attempt at a task switch is made.
+use Rattle.std.proofs.Common.{◌≡◌, ℕ, zero, suc, ◌++◌, List, [], ◌∷◌, refl, sym, subst, ap, ◌⊎◌, inl, inr, Bool, true, false, cond, ◌==◌, ◌&&◌, ◌||◌, nat_lt, ◌-◌, ◌%◌, ◌+◌, ◌^◌, Option, Some, None}
 use Rattle.m386_base.specs.declared.ask.Ask.{Ask}
 use Rattle.m386_base.specs.declared.ask.Role.{Role}
 use Rattle.m386_base.specs.declared.ask.Role.TheVariants as roles
 use Rattle.m386_base.specs.declared.fault.Fault.{Fault}
+use Rattle.m386_base.specs.declared.flags.Flag.TheVariants.{Trap}
 use Rattle.m386_base.specs.Bus.{cycle_of}
 use Rattle.m386_base.specs.Bytes.{has_nt}
-use Rattle.m386_base.specs.declared.flags.Flag.TheVariants.{Trap}
 use Rattle.m386_base.specs.Flags.{has_flag}
-use Rattle.m386_base.specs.Laws.{Obeys}
-use Rattle.m386_base.specs.Phrase.{Phrase, Done, Faults, Asks, Begins, ◌>>=◌, either, one, matches, answer_of, role_number}
-use Rattle.m386_base.proofs.Bounds.{obeys_then}
+use Rattle.m386_base.specs.Laws.{attempts}
+use Rattle.m386_base.specs.Phrase.{Phrase, Done, Faults, Asks, Begins, ◌>>=◌, either, one, follow, Whole, Wrong, matches, answer_of, role_number}
+use Rattle.m386_base.specs.Plain.{Plain, behind}
+use Rattle.m386_base.proofs.Matched.{cycle_matched}
 use Rattle.m386_decode.specs.declared.decoded.Decoded.{Decoded}
 use Rattle.m386_opmap.specs.declared.op.Op.{Op}
 use Rattle.m386_opmap.specs.declared.outcome.Reading.{Reading}
@@ -20,71 +21,90 @@ use Rattle.m386_state.specs.declared.event.Event.{Event}
 use Rattle.m386_state.specs.declared.proc.Mode.{Mode}
 use Rattle.m386_state.specs.declared.proc.Mode.TheVariants.{Running, Halted, Shutdown}
 use Rattle.m386_state.specs.declared.proc.Proc.{Proc}
-use Rattle.m386_state.specs.declared.segment.TableReg.{TableReg}
 use Rattle.m386_access.specs.After.{at_eip}
-use Rattle.m386_access.specs.Ordinary.{Ordinary, Reads, Writes, Accesses, is_read_role, is_write_role, has_role, is_nested, popped, Keeps, KeepsRan}
-use Rattle.m386_access.specs.declared.ran.Ran.{Ran}
+use Rattle.m386_access.specs.Ordinary.{Ordinary, has_role, is_nested, popped, Keeps}
 use Rattle.m386_deliver.specs.Deliver.{deliver_phrase}
 use Rattle.m386_deliver.specs.Exec.{delivers}
 use Rattle.m386_deliver.specs.Second.{second_of}
 use Rattle.m386_deliver.proofs.Plain.{plain_deliver}
-use Rattle.std.specs.Prelude.{is_some}
 use Rattle.m386_string.specs.Element.{element_of}
 use Rattle.m386_string.specs.Repetition.{is_followed, behind_turn}
-use Rattle.m386_base.proofs.Matched.{cycle_matched}
-use Rattle.m386_base.proofs.Plain.{plain_obeys}
+use Rattle.m386_switch.specs.Switch.{switch_phrase}
+use Rattle.m386_system.specs.Claims.{MayClaim, KeepsButClaimed}
+use Rattle.m386_transfer.specs.declared.executed.Executed.{Executed}
+use Rattle.m386_transfer.specs.declared.executed.Executed.TheVariants.{Ran, Came}
+use Rattle.m386_transfer.specs.Tried.{Tried}
 use Rattle.m386_step.specs.declared.fetch.Reader.{Reader}
 use Rattle.m386_step.specs.Code.{read_on, further_phrase, decode_phrase}
-use Rattle.m386_step.specs.Fetch.{byte_phrase, group_phrase, linear, first_reader, taken, fetch_ask}
-use Rattle.m386_step.specs.Instruction.{operation_phrase, decoded_phrase, instruction_phrase}
-use Rattle.m386_step.specs.Keeping.{is_switch_cycle, NoSwitch, with_cycle, KeepsTask, AnyFault}
 use Rattle.m386_step.specs.Events.{due, at_delivery, at_delivery_of, behind_second, delivery_phrase}
+use Rattle.m386_step.specs.Fetch.{byte_phrase, group_phrase, linear, first_reader, taken, fetch_ask}
+use Rattle.m386_step.specs.Instruction.{behind_operation, operation_phrase, decoded_phrase, instruction_phrase}
+use Rattle.m386_step.specs.Keeping.{KeepsTask}
 use Rattle.m386_step.specs.Settled.{settled}
-use Rattle.m386_step.specs.Step.{without_start, running_phrase, turn_phrase, event_or_turn, step_phrase}
-use Rattle.m386_step.proofs.Anew.{matches-role}
-use Rattle.m386_step.proofs.Ordinary.{plain_operation}
+use Rattle.m386_step.specs.Step.{start_phrase, running_phrase, turn_phrase, event_or_turn, start_or_event, step_phrase}
+use Rattle.m386_step.proofs.Ordinary.{KeepsUnclaimed, lawful_operation}
 
--- a phrase of a step, between the cycles before it and what holds behind it
-abbrev Calm : {A : Type 0} → (List Ask → A → Type 0) → List Ask → Phrase A → Type 0
-Calm P ts t = Obeys NoSwitch with_cycle P AnyFault ts t
+-- Behind the cycles ts, the newest first, each way through a phrase on which no attempt begins ends in what P holds of.
+unfoldable pub Calm : {A : Type 0} → (List Ask → A → Type 0) → List Ask → Phrase A → Type 0
+Calm P ts (Done a) = P ts a
+Calm P ts (Faults f) = Unit {0}
+Calm P ts (Begins m t) = Unit {0}
+Calm P ts (Asks q k) = (v : ℕ) → Calm P (cycle_of q v ∷ ts) (k v)
 
 abbrev Anything : {A : Type 0} → List Ask → A → Type 0
 Anything ts a = Unit {0}
 
--- roles that an ordinary operation has are none of a switch
-reads_no_switch : (role : Role) → is_read_role role ≡ true → (nat_le 10 (role_number role) && nat_le (role_number role) 20) ≡ false
-reads_no_switch roles.Tss h = cc
-reads_no_switch roles.ClaimJmp h = cc
-reads_no_switch roles.ClaimCall h = cc
-reads_no_switch roles.ClaimStart h = cc
-reads_no_switch roles.ClaimLtr h = cc
-reads_no_switch roles.Save h = cc
-reads_no_switch roles.Link h = cc
-reads_no_switch roles.Back h = cc
-reads_no_switch roles.RelJmp h = cc
-reads_no_switch roles.RelRet h = cc
-reads_no_switch roles.Load h = cc
-reads_no_switch _ h = refl
+-- what is calm holds of whole cycles in which no attempt begins
+pub calm_whole : {A : Type 0} (P : List Ask → A → Type 0) (us : List Ask) (t : Phrase A) (a : A) (ts : List Ask) → Calm P us t → follow t ts ≡ Whole a [] → attempts t ts ≡ [] → P (behind us ts) a
+unfolding Calm attempts follow
+calm_whole P us (Done b) a [] h e n = let i : b ≡ a = cc in subst (P us) i h
+calm_whole P us (Done b) a (x ∷ ts) h e n = cc
+calm_whole P us (Faults f) a ts h e n = cc
+calm_whole P us (Begins m t) a ts h e n = cc
+calm_whole P us (Asks q k) a [] h e n = cc
+calm_whole P us (Asks q k) a (t ∷ ts) h e n = go (matches q t) refl (calm_whole P (cycle_of q (answer_of t) ∷ us) (k (answer_of t)) a ts (h (answer_of t)))
+  where
+    go : (b : Bool) → matches q t ≡ b → (follow (k (answer_of t)) ts ≡ Whole a [] → attempts (k (answer_of t)) ts ≡ [] → P (behind (cycle_of q (answer_of t) ∷ us) ts) a) → P (behind (t ∷ us) ts) a
+    go true f ih = subst (λ x. P (behind (x ∷ us) ts) a) (cycle_matched q t f) (ih (rw f at e) n)
+    go false f ih = let d : Wrong ≡ Whole a [] = rw f at e in cc
 
-writes_no_switch : (role : Role) → is_write_role role ≡ true → (nat_le 10 (role_number role) && nat_le (role_number role) 20) ≡ false
-writes_no_switch roles.Operand h = refl
-writes_no_switch roles.Push h = refl
-writes_no_switch roles.LdtAcc h = refl
-writes_no_switch _ h = cc
+-- phrases laid end to end
+calm_then : {A B : Type 0} (P : List Ask → A → Type 0) (Q : List Ask → B → Type 0) (ts : List Ask) (t : Phrase A) (f : A → Phrase B) → Calm P ts t → ((us : List Ask) (a : A) → P us a → Calm Q us (f a)) → Calm Q ts (t >>= f)
+unfolding Calm ◌>>=◌
+calm_then P Q ts (Done a) f h k = k ts a h
+calm_then P Q ts (Faults x) f h k = tt
+calm_then P Q ts (Begins m t) f h k = tt
+calm_then P Q ts (Asks q c) f h k = λ v. calm_then P Q (cycle_of q v ∷ ts) (c v) f (h v) k
 
-ordinary_no_switch : (gdt : TableReg) (us : List Ask) (q : Ask) → Ordinary gdt us q → is_switch_cycle q ≡ false
-ordinary_no_switch gdt us q (Reads w r j) = reads_no_switch q.role r
-ordinary_no_switch gdt us q (Writes w r j) = writes_no_switch q.role r
-ordinary_no_switch gdt us q (Accesses selector b n was s i) = rw i.role refl
+-- a phrase, and what follows from its end and from its fault
+calm_either : {A B : Type 0} (P : List Ask → A → Type 0) (Q : List Ask → B → Type 0) (ts : List Ask) (t : Phrase A) (f : A → Phrase B) (g : Fault → Phrase B) → Calm P ts t → ((us : List Ask) (a : A) → P us a → Calm Q us (f a)) → ((us : List Ask) (x : Fault) → Calm Q us (g x)) → Calm Q ts (either t f g)
+unfolding Calm either
+calm_either P Q ts (Done a) f g h k l = k ts a h
+calm_either P Q ts (Faults x) f g h k l = l ts x
+calm_either P Q ts (Begins m t) f g h k l = tt
+calm_either P Q ts (Asks q c) f g h k l = λ v. calm_either P Q (cycle_of q v ∷ ts) (c v) f g (h v) k l
 
--- the cycles of the operation are the newest ones of the step
-Within : List Ask → List Ask → Type 0
-Within us ts = (before : List Ask) × (ts ≡ us ++ before)
+calm_done : {A : Type 0} (P : List Ask → A → Type 0) (ts : List Ask) (a : A) → P ts a → Calm P ts (Done a)
+unfolding Calm
+calm_done P ts a h = h
 
-within_more : (us ts : List Ask) (q t : Ask) → matches q t ≡ true → Within us ts → Within (cycle_of q (answer_of t) ∷ us) (t ∷ ts)
-unfolding Within
-within_more us ts q t m w = (w.0, rw (cycle_matched q t m) (ap (λ x. t ∷ x) w.1))
+calm_faults : {A : Type 0} (P : List Ask → A → Type 0) (ts : List Ask) (f : Fault) → Calm P ts (Faults f)
+unfolding Calm
+calm_faults P ts f = tt
 
+calm_if : {A : Type 0} (P : List Ask → A → Type 0) (ts : List Ask) (b : Bool) (t u : Phrase A) → Calm P ts t → Calm P ts u → Calm P ts (cond b t u)
+calm_if P ts true t u h k = h
+calm_if P ts false t u h k = k
+
+-- weaker ends
+calm_ends : {A : Type 0} (P Q : List Ask → A → Type 0) (ts : List Ask) (t : Phrase A) → ((us : List Ask) (a : A) → P us a → Q us a) → Calm P ts t → Calm Q ts t
+unfolding Calm
+calm_ends P Q ts (Done a) k h = k ts a h
+calm_ends P Q ts (Faults f) k h = tt
+calm_ends P Q ts (Begins m t) k h = tt
+calm_ends P Q ts (Asks q c) k h = λ v. calm_ends P Q (cycle_of q v ∷ ts) (c v) k (h v)
+
+-- cycles before make no difference to what is kept
 or_left : (a b c : Bool) → (b ≡ true → c ≡ true) → (a || b) ≡ true → (a || c) ≡ true
 or_left true b c f h = refl
 or_left false b c f h = f h
@@ -97,65 +117,69 @@ popped_more : (us before : List Ask) → popped us ≡ true → popped (us ++ be
 popped_more [] before h = cc
 popped_more (u ∷ us) before h = or_left ((role_number u.role == role_number roles.Flags) && has_nt u) (popped us) (popped (us ++ before)) (popped_more us before) h
 
-keeps_task : (p : Proc) (us ts : List Ask) (after : Proc) → Within us ts → Keeps p us after → KeepsTask p ts after
-unfolding Within
-keeps_task p us ts after w k = subst (λ x. KeepsTask p x after) (sym w.1) (record { tr = k.tr; gdtr = go k.gdtr; nested = λ h. set (k.nested h) })
+keeps_more : (p : Proc) (us before : List Ask) (after : Proc) → KeepsButClaimed p us after → KeepsTask p (us ++ before) after
+keeps_more p us before after k = record { tr = claimed k.tr; gdtr = loaded k.gdtr; nested = λ h. set (k.nested h) }
   where
-    go : (after.gdtr ≡ p.gdtr) ⊎ (has_role roles.Lgdt us ≡ true) → (after.gdtr ≡ p.gdtr) ⊎ (has_role roles.Lgdt (us ++ w.0) ≡ true)
-    go (inl e) = inl e
-    go (inr h) = inr (has_more roles.Lgdt us w.0 h)
+    claimed : (after.tr ≡ p.tr) ⊎ (has_role roles.ClaimLtr us ≡ true) → (after.tr ≡ p.tr) ⊎ (has_role roles.ClaimLtr (us ++ before) ≡ true)
+    claimed (inl e) = inl e
+    claimed (inr h) = inr (has_more roles.ClaimLtr us before h)
 
-    set : (is_nested p ≡ true) ⊎ (popped us ≡ true) → (is_nested p ≡ true) ⊎ (popped (us ++ w.0) ≡ true)
+    loaded : (after.gdtr ≡ p.gdtr) ⊎ (has_role roles.Lgdt us ≡ true) → (after.gdtr ≡ p.gdtr) ⊎ (has_role roles.Lgdt (us ++ before) ≡ true)
+    loaded (inl e) = inl e
+    loaded (inr h) = inr (has_more roles.Lgdt us before h)
+
+    set : (is_nested p ≡ true) ⊎ (popped us ≡ true) → (is_nested p ≡ true) ⊎ (popped (us ++ before) ≡ true)
     set (inl e) = inl e
-    set (inr h) = inr (popped_more us w.0 h)
+    set (inr h) = inr (popped_more us before h)
+
+-- what an instruction that came to no switch keeps
+KeepsRan : Proc → List Ask → Executed → Type 0
+KeepsRan p ts (Ran r) = KeepsTask p ts r.after
+KeepsRan p ts (Came r) = ⊥
+
+keeps_ran : (p : Proc) (us before : List Ask) (e : Executed) → KeepsUnclaimed p us e → KeepsRan p (us ++ before) e
+unfolding KeepsRan
+keeps_ran p us before (Ran r) k = keeps_more p us before r.after k
+keeps_ran p us before (Came r) k = absurd k
+
+calm_tried : (n : ℕ) (p : Proc) (us before : List Ask) (t : Phrase Executed) → Tried n (MayClaim p.gdtr) (KeepsUnclaimed p) p us t → Calm (KeepsRan p) (us ++ before) t
+unfolding Tried Calm
+calm_tried n p us before (Done e) h = keeps_ran p us before e h
+calm_tried n p us before (Faults f) h = tt
+calm_tried n p us before (Begins m t) h = tt
+calm_tried zero p us before (Asks q k) h = absurd h
+calm_tried (suc n) p us before (Asks q k) h = λ v. calm_tried n p (cycle_of q v ∷ us) before (k v) (h.1 v)
 
 -- Each operation, whatever came before it in its step.
-calm_operation : (op : Op) (p : Proc) (ts : List Ask) → Calm (λ us (r : Ran). KeepsTask p us r.after) ts (operation_phrase op p)
-unfolding Within
-calm_operation op p ts =
-    plain_obeys 160 (Ordinary p.gdtr) (KeepsRan p) NoSwitch with_cycle (λ us (r : Ran). KeepsTask p us r.after) AnyFault Within
-    (λ us s q t w o m. (rw (← matches-role q t m) (ordinary_no_switch p.gdtr us q o), within_more us s q t m w))
-    (λ us s r w k. keeps_task p us s r.after w k)
-    (λ us s f w. tt)
-    [] ts (operation_phrase op p) (ts, refl) (plain_operation op p)
+calm_operation : (op : Op) (p : Proc) (ts : List Ask) → Calm (KeepsRan p) ts (operation_phrase op p)
+calm_operation op p ts = calm_tried 160 p [] ts (operation_phrase op p) (lawful_operation op p)
 
 -- the fetches
-calm_if : {A : Type 0} (P : List Ask → A → Type 0) (ts : List Ask) (b : Bool) (t u : Phrase A) → Calm P ts t → Calm P ts u → Calm P ts (cond b t u)
-calm_if P ts true t u h k = h
-calm_if P ts false t u h k = k
-
 calm_group : (r : Reader) (ts : List Ask) → Calm Anything ts (group_phrase r)
-unfolding group_phrase ◌>>=◌
+unfolding group_phrase Calm ◌>>=◌
 calm_group r ts =
     let group = linear r - linear r % 4 in
-    calm_if Anything ts (r.fetched && (r.group == group)) (Done (taken r)) (one (fetch_ask group) >>= (λ v. Done (taken (record r { fetched = true; group = group; value = v })))) tt (λ t m. (rw (← matches-role (fetch_ask group) t m) refl, tt))
+    calm_if Anything ts (r.fetched && (r.group == group)) (Done (taken r)) (one (fetch_ask group) >>= (λ v. Done (taken (record r { fetched = true; group = group; value = v })))) tt (λ v. tt)
 
 calm_byte : (r : Reader) (ts : List Ask) → Calm Anything ts (byte_phrase r)
 unfolding byte_phrase
-calm_byte r ts = calm_if Anything ts (nat_lt r.limit r.at) _ _ tt (calm_group r ts)
+calm_byte r ts = calm_if Anything ts (nat_lt r.limit r.at) _ _ (calm_faults Anything ts _) (calm_group r ts)
 
 calm_read_on : (x : Reading) (more : Phrase Decoded) (ts : List Ask) → Calm Anything ts more → Calm Anything ts (read_on x more)
-calm_read_on (Spelled op len) more ts h = tt
-calm_read_on (Refused at) more ts h = tt
+calm_read_on (Spelled op len) more ts h = calm_done Anything ts _ tt
+calm_read_on (Refused at) more ts h = calm_faults Anything ts _
 calm_read_on More more ts h = h
 
 calm_further : (n : ℕ) (bytes : List ℕ) (r : Reader) (ts : List Ask) → Calm Anything ts (further_phrase n bytes r)
 unfolding further_phrase
-calm_further zero bytes r ts = tt
+calm_further zero bytes r ts = calm_faults Anything ts _
 calm_further (suc n) bytes r ts =
-    obeys_then NoSwitch with_cycle Anything Anything AnyFault ts (byte_phrase r) _ (calm_byte r ts)
+    calm_then Anything Anything ts (byte_phrase r) _ (calm_byte r ts)
     (λ us b o. calm_read_on (reading_of (bytes ++ b.0 ∷ [])) _ us (calm_further n (bytes ++ b.0 ∷ []) b.1 us))
 
 calm_decode : (r : Reader) (ts : List Ask) → Calm Anything ts (decode_phrase r)
 unfolding decode_phrase
 calm_decode r ts = calm_further 15 [] r ts
-
--- weaker ends
-calm_ends : {A : Type 0} (P Q : List Ask → A → Type 0) (ts : List Ask) (t : Phrase A) → ((us : List Ask) (a : A) → P us a → Q us a) → Calm P ts t → Calm Q ts t
-calm_ends P Q ts (Done a) k h = k ts a h
-calm_ends P Q ts (Faults f) k h = tt
-calm_ends P Q ts (Begins m t) k h = calm_ends P Q ts t k h
-calm_ends P Q ts (Asks q c) k h = λ t m. ((h t m).0, calm_ends P Q (t ∷ ts) (c (answer_of t)) k (h t m).1)
 
 -- behind a turn whose repetition may go on
 keeps_behind : (op : Op) (p : Proc) (us : List Ask) (after : Proc) → KeepsTask p us after → KeepsTask p us (behind_turn op p after)
@@ -175,45 +199,49 @@ keeps_settled delivered p us after (Some f) k = record { tr = k.tr; gdtr = k.gdt
 keeps_settled true p us after None k = k
 keeps_settled false p us after None k = keeps_pending p us after _ (has_flag Trap p.eflags) k
 
+keeps_operation : (op : Op) (p : Proc) (next : ℕ) (us : List Ask) (e : Executed) → KeepsRan (at_eip p next) us e → KeepsTask p us (behind_operation op p e)
+unfolding KeepsRan
+keeps_operation op p next us (Ran r) k = keeps_settled (delivers op p) p us _ r.fault (keeps_behind op p us r.after (record { tr = k.tr; gdtr = k.gdtr; nested = k.nested }))
+keeps_operation op p next us (Came r) k = absurd k
+
 calm_instruction : (p : Proc) → Calm (KeepsTask p) [] (instruction_phrase p)
 unfolding instruction_phrase decoded_phrase
 calm_instruction p =
-    obeys_then NoSwitch with_cycle Anything (KeepsTask p) AnyFault [] (decode_phrase (first_reader p)) _ (calm_decode (first_reader p) [])
+    calm_then Anything (KeepsTask p) [] (decode_phrase (first_reader p)) _ (calm_decode (first_reader p) [])
     (λ us d o.
-    let begun : Proc = at_eip p ((p.eip + d.len) % 2 ^ 32) in
-    obeys_then NoSwitch with_cycle (λ vs (r : Ran). KeepsTask begun vs r.after) (KeepsTask p) AnyFault us (operation_phrase d.op begun) _ (calm_operation d.op begun us)
-    (λ vs r k. keeps_settled (delivers d.op p) p vs _ r.fault (keeps_behind d.op p vs r.after (record { tr = k.tr; gdtr = k.gdtr; nested = k.nested }))))
+    let next : ℕ = (p.eip + d.len) % 2 ^ 32 in
+    calm_then (KeepsRan (at_eip p next)) (KeepsTask p) us (operation_phrase d.op (at_eip p next)) _ (calm_operation d.op (at_eip p next) us)
+    (λ vs e k. calm_done (KeepsTask p) vs _ (keeps_operation d.op p next vs e k)))
 
--- a phrase, and what follows from its end and from its fault
-calm_either : {A B : Type 0} (P : List Ask → A → Type 0) (Q : List Ask → B → Type 0) (ts : List Ask) (t : Phrase A) (f : A → Phrase B) (g : Fault → Phrase B) → Calm P ts t → ((us : List Ask) (a : A) → P us a → Calm Q us (f a)) → ((us : List Ask) (x : Fault) → Calm Q us (g x)) → Calm Q ts (either t f g)
-unfolding either
-calm_either P Q ts (Done a) f g h k l = k ts a h
-calm_either P Q ts (Faults x) f g h k l = l ts x
-calm_either P Q ts (Begins m t) f g h k l = calm_either P Q ts t f g h k l
-calm_either P Q ts (Asks q c) f g h k l = λ t m. ((h t m).0, calm_either P Q (t ∷ ts) (c (answer_of t)) f g (h t m).1 k l)
+keeps_same : (p : Proc) (us : List Ask) → KeepsTask p us p
+keeps_same p us = record { tr = inl refl; gdtr = inl refl; nested = λ h. inl h }
 
 calm_turn : (m : Mode) (p : Proc) → Calm (KeepsTask p) [] (turn_phrase m p)
 unfolding running_phrase
-calm_turn Running p = calm_either (KeepsTask p) (KeepsTask p) [] (instruction_phrase p) _ _ (calm_instruction p) (λ us r k. k) (λ us f. record { tr = refl; gdtr = inl refl; nested = λ h. inl h })
-calm_turn Halted p = record { tr = refl; gdtr = inl refl; nested = λ h. inl h }
-calm_turn Shutdown p = record { tr = refl; gdtr = inl refl; nested = λ h. inl h }
+calm_turn Running p =
+    calm_either (KeepsTask p) (KeepsTask p) [] (instruction_phrase p) _ _ (calm_instruction p) (λ us r k. calm_done (KeepsTask p) us r k)
+    (λ us f. calm_done (KeepsTask p) us _ (record { tr = inl refl; gdtr = inl refl; nested = λ h. inl h }))
+calm_turn Halted p = calm_done (KeepsTask p) [] p (keeps_same p [])
+calm_turn Shutdown p = calm_done (KeepsTask p) [] p (keeps_same p [])
 
-calm_deliver : (p : Proc) (e : Event) → Calm (KeepsTask p) [] (deliver_phrase p e)
-unfolding Within
-calm_deliver p e =
-    plain_obeys 30 (Ordinary p.gdtr) (Keeps p) NoSwitch with_cycle (KeepsTask p) AnyFault Within
-    (λ us s q t w o m. (rw (← matches-role q t m) (ordinary_no_switch p.gdtr us q o), within_more us s q t m w))
-    (λ us s after w k. keeps_task p us s after w k)
-    (λ us s f w. tt)
-    [] [] (deliver_phrase p e) ([], refl) (plain_deliver p [] e)
+-- a delivery
+calm_plain : (n : ℕ) (p : Proc) (us : List Ask) (t : Phrase Proc) → Plain n (Ordinary p.gdtr) (Keeps p) us t → Calm (KeepsTask p) us t
+unfolding Plain Calm
+calm_plain n p us (Done after) h = record { tr = inl h.tr; gdtr = h.gdtr; nested = h.nested }
+calm_plain n p us (Faults f) h = tt
+calm_plain n p us (Begins m t) h = tt
+calm_plain zero p us (Asks q k) h = absurd h
+calm_plain (suc n) p us (Asks q k) h = λ v. calm_plain n p (cycle_of q v ∷ us) (k v) (h.1 v)
 
 keeps_second : (p : Proc) (us : List Ask) (e : Option Event) → KeepsTask p us (behind_second p e)
-keeps_second p us (Some e) = record { tr = refl; gdtr = inl refl; nested = λ h. inl h }
-keeps_second p us None = record { tr = refl; gdtr = inl refl; nested = λ h. inl h }
+keeps_second p us (Some e) = record { tr = inl refl; gdtr = inl refl; nested = λ h. inl h }
+keeps_second p us None = record { tr = inl refl; gdtr = inl refl; nested = λ h. inl h }
 
 calm_delivery : (p : Proc) (e : Event) → Calm (KeepsTask p) [] (delivery_phrase p e)
 unfolding delivery_phrase
-calm_delivery p e = calm_either (KeepsTask p) (KeepsTask p) [] (deliver_phrase p e) _ _ (calm_deliver p e) (λ us after k. k) (λ us f. keeps_second p us (second_of e f))
+calm_delivery p e =
+    calm_either (KeepsTask p) (KeepsTask p) [] (deliver_phrase p e) _ _ (calm_plain 30 p [] (deliver_phrase p e) (plain_deliver p [] e)) (λ us after k. calm_done (KeepsTask p) us after k)
+    (λ us f. calm_done (KeepsTask p) us _ (keeps_second p us (second_of e f)))
 
 -- what a taken event leaves as it was
 taken_keeps : (e : Option Event) (p : Proc) (us : List Ask) (after : Proc) → KeepsTask (at_delivery_of e p) us after → KeepsTask p us after
@@ -226,6 +254,11 @@ calm_event None p =
     let begun : Proc = record p { shadow = false } in
     calm_ends (KeepsTask begun) (KeepsTask p) [] (turn_phrase p.mode begun) (λ us after k. record { tr = k.tr; gdtr = k.gdtr; nested = k.nested }) (calm_turn p.mode begun)
 
-pub calm_step : (p : Proc) → Calm (KeepsTask p) [] (step_phrase p)
+calm_begun : (start : Option ℕ) (p : Proc) → Calm (KeepsTask p) [] (start_or_event start p)
+unfolding start_phrase switch_phrase Calm ◌>>=◌
+calm_begun (Some selector) p = tt
+calm_begun None p = calm_event (due p) p
+
+pub keeps_step : (p after : Proc) (ts : List Ask) → follow (step_phrase p) ts ≡ Whole after [] → attempts (step_phrase p) ts ≡ [] → KeepsTask p (behind [] ts) after
 unfolding step_phrase
-calm_step p = calm_if (KeepsTask p) [] (is_some p.start) (Done (without_start p)) (event_or_turn (due p) p) (record { tr = refl; gdtr = inl refl; nested = λ h. inl h }) (calm_event (due p) p)
+keeps_step p after ts e n = calm_whole (KeepsTask p) [] (start_or_event p.start p) after ts (calm_begun p.start p) e n

@@ -10,6 +10,8 @@ pub mod Rising
 pub mod Runs
 pub mod Short
 pub mod Sources
+pub mod Standing
+pub mod StepAttempts
 pub mod StepLists
 pub mod Told
 pub mod WholeSteps

@@ -1,8 +1,6 @@
 -- No step fetches a group twice: its instruction's bytes rise, and what an operation does fetches nothing.
-use Rattle.std.proofs.Common.{◌+◌, ◌%◌, ◌^◌, [], cond, Bool, true, false, Option, Some, None}
-use Rattle.m386_base.specs.Phrase.{Done}
+use Rattle.std.proofs.Common.{ℕ, ◌+◌, ◌%◌, ◌^◌, [], false, Option, Some, None}
 use Rattle.m386_base.proofs.Bounds.{obeys_then}
-use Rattle.std.specs.Prelude.{is_some}
 use Rattle.m386_deliver.specs.Deliver.{deliver_phrase}
 use Rattle.m386_state.specs.declared.event.Event.{Event}
 use Rattle.m386_state.specs.declared.proc.Mode.{Mode}
@@ -12,10 +10,10 @@ use Rattle.m386_access.specs.After.{at_eip}
 use Rattle.m386_step.specs.Code.{decode_phrase}
 use Rattle.m386_step.specs.Fetch.{first_reader}
 use Rattle.m386_step.specs.Instruction.{operation_phrase, decoded_phrase, instruction_phrase}
-use Rattle.m386_step.proofs.Ordinary.{none_operation, none_deliver}
+use Rattle.m386_step.proofs.Ordinary.{none_operation, none_deliver, none_start}
 use Rattle.m386_step.specs.Once.{IsAnew, with_fetched, FetchesOnce}
 use Rattle.m386_step.specs.Events.{due, at_delivery, delivery_phrase}
-use Rattle.m386_step.specs.Step.{without_start, running_phrase, turn_phrase, event_or_turn, step_phrase}
+use Rattle.m386_step.specs.Step.{start_phrase, running_phrase, turn_phrase, event_or_turn, start_or_event, step_phrase}
 use Rattle.m386_step.proofs.Anew.{Once, AnyGroups, none_once, once_either}
 use Rattle.m386_step.proofs.Rising.{once_decode}
 
@@ -41,10 +39,10 @@ once_event : (due : Option Event) (p : Proc) → Once AnyGroups [] (event_or_tur
 once_event (Some e) p = once_delivery (at_delivery p) e
 once_event None p = once_turn p.mode (record p { shadow = false })
 
+once_begun : (start : Option ℕ) (p : Proc) → Once AnyGroups [] (start_or_event start p)
+once_begun (Some selector) p = none_once [] (start_phrase p selector) (none_start p selector)
+once_begun None p = once_event (due p) p
+
 pub once_step : (p : Proc) → FetchesOnce [] (step_phrase p)
 unfolding step_phrase FetchesOnce
-once_step p = go (is_some p.start)
-  where
-    go : (b : Bool) → Once AnyGroups [] (cond b (Done (without_start p)) (event_or_turn (due p) p))
-    go true = tt
-    go false = once_event (due p) p
+once_step p = once_begun p.start p

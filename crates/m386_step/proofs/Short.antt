@@ -1,13 +1,14 @@
 -- No step has more than 192 cycles, and none ends in a fault.
 use Rattle.std.proofs.Common.{◌≡◌, ℕ, zero, suc, ◌+◌, ◌++◌, ◌-◌, ◌%◌, List, [], ◌∷◌, arith, true, false, cond, Bool, nat_lt, ◌&&◌, ◌==◌, Option, Some, None}
 use Rattle.m386_base.specs.Laws.{AtMost, Sound}
-use Rattle.m386_base.specs.Phrase.{Phrase, Done, ◌>>=◌, one}
-use Rattle.m386_base.proofs.Bounds.{at_most_then, at_most_either, at_most_if, sound_either}
+use Rattle.m386_base.specs.declared.kind.SwitchKind.TheVariants.{Start}
+use Rattle.m386_base.specs.Bus.{cycle_of}
+use Rattle.m386_base.specs.Phrase.{Phrase, Done, Faults, Asks, Begins, ◌>>=◌, one}
+use Rattle.m386_base.proofs.Bounds.{at_most_then, at_most_either, at_most_if, at_most_more, sound_either}
 use Rattle.m386_decode.specs.declared.decoded.Decoded.{Decoded}
 use Rattle.m386_opmap.specs.declared.outcome.Reading.{Reading}
 use Rattle.m386_opmap.specs.declared.outcome.Reading.TheVariants.{Spelled, More, Refused}
 use Rattle.m386_opmap.specs.Readings.{reading_of}
-use Rattle.std.specs.Prelude.{is_some}
 use Rattle.m386_deliver.specs.Deliver.{deliver_phrase}
 use Rattle.m386_state.specs.declared.event.Event.{Event}
 use Rattle.m386_state.specs.declared.proc.Mode.{Mode}
@@ -17,9 +18,16 @@ use Rattle.m386_step.specs.declared.fetch.Reader.{Reader}
 use Rattle.m386_step.specs.Code.{read_on, further_phrase, decode_phrase}
 use Rattle.m386_step.specs.Fetch.{byte_phrase, group_phrase, linear, first_reader, taken, fetch_ask}
 use Rattle.m386_step.specs.Instruction.{decoded_phrase, instruction_phrase}
-use Rattle.m386_step.proofs.Ordinary.{short_operation, short_deliver}
+use Rattle.m386_step.proofs.Ordinary.{short_operation, short_deliver, short_start}
 use Rattle.m386_step.specs.Events.{due, at_delivery, delivery_phrase}
-use Rattle.m386_step.specs.Step.{running_phrase, turn_phrase, event_or_turn, step_phrase}
+use Rattle.m386_step.specs.Settled.{behind_start}
+use Rattle.m386_switch.specs.declared.outcome.Switched.{Switched}
+use Rattle.m386_switch.specs.Ends.{EndsAs}
+use Rattle.m386_switch.specs.Seen.{Seen, note, nothing_seen}
+use Rattle.m386_switch.specs.Switch.{attempt_of, switch_phrase, work_phrase}
+use Rattle.m386_switch.proofs.Shows.{Shows}
+use Rattle.m386_switch.proofs.Whole.{work_shows}
+use Rattle.m386_step.specs.Step.{without_start, start_phrase, running_phrase, turn_phrase, event_or_turn, start_or_event, step_phrase}
 
 short_group : (r : Reader) → AtMost 1 (group_phrase r)
 unfolding group_phrase ◌>>=◌
@@ -68,9 +76,13 @@ short_event : (due : Option Event) (p : Proc) → AtMost 192 (event_or_turn due 
 short_event (Some e) p = short_delivery (at_delivery p) e
 short_event None p = short_turn p.mode (record p { shadow = false })
 
+short_begun : (start : Option ℕ) (p : Proc) → AtMost 192 (start_or_event start p)
+short_begun (Some selector) p = at_most_more 113 79 (start_phrase p selector) (short_start p selector)
+short_begun None p = short_event (due p) p
+
 pub short_step : (p : Proc) → AtMost 192 (step_phrase p)
 unfolding step_phrase
-short_step p = at_most_if 192 (is_some p.start) _ _ tt (short_event (due p) p)
+short_step p = short_begun p.start p
 
 sound_turn : (m : Mode) (p : Proc) → Sound (turn_phrase m p)
 unfolding running_phrase
@@ -83,10 +95,21 @@ unfolding delivery_phrase
 sound_event (Some e) p = sound_either (deliver_phrase (at_delivery p) e) _ _ (λ a. tt) (λ f. tt)
 sound_event None p = sound_turn p.mode (record p { shadow = false })
 
-sound-if : {A : Type 0} (b : Bool) (t u : Phrase A) → Sound t → Sound u → Sound (cond b t u)
-sound-if true t u h k = h
-sound-if false t u h k = k
+-- a switch ends in no fault
+sound_came : {A : Type 0} (P : Seen → Switched → Type 0) (g : Seen) (t : Phrase Switched) (w : Switched → A) → Shows P g t → Sound (t >>= (λ r. Done (w r)))
+unfolding Shows ◌>>=◌
+sound_came P g (Done r) w h = tt
+sound_came P g (Faults f) w h = absurd h
+sound_came P g (Begins m t) w h = absurd h
+sound_came P g (Asks q k) w h = λ v. sound_came P (note g (cycle_of q v)) (k v) w (h v)
+
+sound_begun : (start : Option ℕ) (p : Proc) → Sound (start_or_event start p)
+unfolding start_phrase switch_phrase ◌>>=◌
+sound_begun (Some selector) p =
+    let begun : Proc = without_start p in
+    sound_came (λ g r. EndsAs (attempt_of begun Start selector false false) g begun r) nothing_seen (work_phrase begun Start selector false false) (behind_start begun) (work_shows begun Start selector false false)
+sound_begun None p = sound_event (due p) p
 
 pub sound_step : (p : Proc) → Sound (step_phrase p)
 unfolding step_phrase
-sound_step p = sound-if (is_some p.start) _ _ tt (sound_event (due p) p)
+sound_step p = sound_begun p.start p

@@ -10,4 +10,5 @@ pub mod Probes
 pub mod Run
 pub mod Settled
 pub mod Step
+pub mod StepEnds
 pub mod Steps

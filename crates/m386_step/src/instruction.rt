@@ -1,16 +1,15 @@
 //! One instruction: its bytes are decoded, and lead to the crate that has its operation.
-ghost use Rattle.std.specs.Prelude.{◌≡◌, false, OnErr};
-ghost use Rattle.m386_access.specs.Ran.{ran};
+ghost use Rattle.std.specs.Prelude.{◌≡◌, false};
 ghost use Rattle.m386_base.specs.Phrase.{Performs, it};
 ghost use Rattle.m386_step.specs.Instruction.{operation_phrase, behind_operation, decoded_phrase, instruction_phrase};
 
 use crate::code::fetch_operation;
 use crate::fetch::reader_at;
-use crate::settled::settled;
+use crate::settled::{behind_switch, settled};
 use m386_access::after::at_eip;
 use m386_base::bus::Bus;
 use m386_base::exception::undefined_opcode;
-use m386_base::fault::{Break, Fault};
+use m386_base::fault::Break;
 use m386_data::exec as data;
 use m386_deliver::exec as deliver;
 use m386_deliver::exec::delivers;
@@ -22,53 +21,57 @@ use m386_state::proc::Proc;
 use m386_string::exec as string;
 use m386_string::repetition::behind_turn;
 use m386_system::exec as system;
+use m386_transfer::executed::{Executed, ran_to};
 
-/// An operation, with EIP behind it, by the first crate that takes it. `Ok(Some(fault))`: the fault is seen in the new state.
-/// At `Err` the state is as before.
-#[tactic(auto, using(m386_base::proofs::Phrases::calls), unfolding(crate::specs::Instruction::operation_phrase, m386_access::specs::Ran::plainly))]
-fn perform<B: Bus>(p: &mut Proc, op: &Op, bus: &mut B) -> Result<Option<Fault>, Break>
+/// An operation, from a state with EIP behind it, by the first crate that takes it.
+#[tactic(auto, using(m386_base::proofs::Phrases::calls), unfolding(crate::specs::Instruction::operation_phrase, m386_transfer::specs::Executed::simply))]
+fn perform<B: Bus>(p: &Proc, op: &Op, bus: &mut B) -> Result<Executed, Break>
     requires free { (B.view bus.old).kept ≡ false }
-    ensures cycles { Performs (operation_phrase op.now p.old) (B.view bus.old) (B.view bus.new) (ran p.new) result }
+    ensures cycles { Performs (operation_phrase op.now p.now) (B.view bus.old) (B.view bus.new) it result }
     ensures free { (B.view bus.new).kept ≡ false }
-    ensures before { OnErr result (p.new ≡ p.old) }
 {
+    let mut after = *p;
     if data::takes(op) {
-        data::exec(p, op, bus)?;
-        return Ok(None);
+        data::exec(&mut after, op, bus)?;
+        return Ok(ran_to(after));
     }
     if deliver::takes(op) {
-        deliver::exec(p, op, bus)?;
-        return Ok(None);
+        return deliver::attempt(p, op, bus);
     }
     if gates::takes(op) {
         return gates::attempt(p, op, bus);
     }
     if segments::takes(op) {
-        segments::exec(p, op, bus)?;
-        return Ok(None);
+        segments::exec(&mut after, op, bus)?;
+        return Ok(ran_to(after));
     }
     if stack::takes(op) {
-        stack::exec(p, op, bus)?;
-        return Ok(None);
+        stack::exec(&mut after, op, bus)?;
+        return Ok(ran_to(after));
     }
     if string::takes(op) {
-        string::exec(p, op, bus)?;
-        return Ok(None);
+        string::exec(&mut after, op, bus)?;
+        return Ok(ran_to(after));
     }
     if system::takes(op) {
-        system::exec(p, op, bus)?;
-        return Ok(None);
+        system::exec(&mut after, op, bus)?;
+        return Ok(ran_to(after));
     }
     Err(Break::Fault(undefined_opcode()))
 }
 
 /// What an operation of an instruction that began in a state comes to: EIP is the instruction's again where a further turn follows;
-/// and the trap or the fault behind it is pending.
-fn behind_operation(op: &Op, before: &Proc, after: &Proc, fault: Option<Fault>) -> Proc
-    ensures { result ≡ behind_operation op.now before.now (ran after.now fault) }
+/// and the trap or the fault behind it is pending. Or what a switch makes of it.
+fn behind_operation(op: &Op, before: &Proc, executed: &Executed) -> Proc
+    ensures { result ≡ behind_operation op.now before.now executed.now }
 {
-    let turned = behind_turn(op, before, after);
-    settled(delivers(op, before), before, &turned, fault)
+    match executed {
+        Executed::Ran(ran) => {
+            let turned = behind_turn(op, before, &ran.after);
+            settled(delivers(op, before), before, &turned, ran.fault)
+        }
+        Executed::Came(came) => behind_switch(before, came),
+    }
 }
 
 /// An instruction of so many bytes, or a turn of one that is repeated.
@@ -78,9 +81,9 @@ fn execute<B: Bus>(op: &Op, len: u8, p: &Proc, bus: &mut B) -> Result<Proc, Brea
     ensures cycles { Performs (decoded_phrase op.now len p.now) (B.view bus.old) (B.view bus.new) it result }
     ensures free { (B.view bus.new).kept ≡ false }
 {
-    let mut after = at_eip(p, p.eip.wrapping_add(u32::from(len)));
-    let fault = perform(&mut after, op, bus)?;
-    Ok(behind_operation(op, p, &after, fault))
+    let begun = at_eip(p, p.eip.wrapping_add(u32::from(len)));
+    let executed = perform(&begun, op, bus)?;
+    Ok(behind_operation(op, p, &executed))
 }
 
 /// The instruction at EIP. One that isn't built is #UD, behind its last byte.

@@ -1,13 +1,17 @@
 //! Laws of the step's definition.
-ghost use Rattle.std.specs.Prelude.{◌≡◌, ◌↔◌, ◌⊎◌, ℕ, suc, ◌≤◌, [], ◌∷◌, ◌++◌, List, length, slice_get, Some, Ok, Err};
+ghost use Rattle.std.specs.List.{AllByRecursion};
+ghost use Rattle.std.specs.Prelude.{false, ◌≡◌, ◌↔◌, ◌⊎◌, ℕ, suc, ◌≤◌, [], ◌∷◌, ◌++◌, List, length, slice_get, Some, Ok, Err};
 ghost use Rattle.m386_base.specs.declared.ask.Ask.{Ask as AskRecord};
 ghost use Rattle.m386_base.specs.declared.ask.Cycle.{Cycle as CycleRecord};
 ghost use Rattle.m386_base.specs.declared.fault.Break.TheVariants as breaks;
 ghost use Rattle.m386_base.specs.declared.fault.Fault.{Fault as FaultRecord};
 ghost use Rattle.m386_base.specs.Bus.{BusView};
-ghost use Rattle.m386_base.specs.Laws.{AtMost, Obeys};
-ghost use Rattle.m386_step.specs.Keeping.{NoSwitch, with_cycle, KeepsTask, AnyFault};
-ghost use Rattle.m386_base.specs.Phrase.{Phrase, Done, Asks, Performs, it, Whole, Faulted, Wants, follow};
+ghost use Rattle.m386_base.specs.Laws.{AtMost, attempts};
+ghost use Rattle.m386_base.specs.Plain.{behind};
+ghost use Rattle.m386_step.specs.Keeping.{KeepsTask};
+ghost use Rattle.m386_step.specs.StepEnds.{StepEnds, IsBehindReads};
+ghost use Rattle.m386_switch.specs.Attempts.{EachEnds, is_of_a_switch};
+ghost use Rattle.m386_base.specs.Phrase.{Attempt as AttemptRecord, Phrase, Done, Asks, Performs, it, Whole, Faulted, Wants, follow};
 ghost use Rattle.m386_base.specs.Replay.{Found, Lacks, replay};
 ghost use Rattle.m386_image.specs.declared.image.Image.{Image as ImageRecord};
 ghost use Rattle.m386_memory.specs.Contents.{Contents};
@@ -64,10 +68,29 @@ pub fn decoding_is_the_decoders()
         → (follow (decode_phrase r) ts ≡ Wants wanted) ↔ WantsByte r ts (Wants wanted) }
 {}
 
-/// A step makes no cycle of a task switch, and keeps TR, and the GDT register but for a cycle of LGDT.
-#[tactic(auto, using(crate::proofs::Keeping::calm_step))]
+/// A whole step in which no attempt at a task switch is made keeps TR but for the claim of LTR, and the GDT register but for a cycle of
+/// LGDT; and it sets NT only behind a flags cycle that read it set.
+#[tactic(auto, using(crate::proofs::Keeping::keeps_step))]
 pub fn step_keeps_the_task()
-    ensures { (p : ProcRecord) → Obeys NoSwitch with_cycle (KeepsTask p) AnyFault [] (step_phrase p) }
+    ensures { (p after : ProcRecord) (ts : List AskRecord) → Follow p ts ≡ Whole after [] → attempts (step_phrase p) ts ≡ [] → KeepsTask p (behind [] ts) after }
+{}
+
+/// Each attempt at a task switch of a step ends whole or at the first row of the check table that fails, by its own cycles, and the
+/// step leaves what that makes of the state before: a row of the old task is pending there, one of the new task in the new state, and
+/// a start that fails before its task is entered shuts the processor down.
+pub fn each_attempt_of_a_step_ends()
+    ensures each { (p : ProcRecord) → EachEnds (StepEnds p) (step_phrase p) }
+    ensures whole { (p after : ProcRecord) (ts : List AskRecord) → Follow p ts ≡ Whole after []
+        → AllByRecursion (λ (x : AttemptRecord × List AskRecord). StepEnds p x.0 x.1 after) (attempts (step_phrase p) ts) }
+{}
+
+/// An attempt at a task switch has the last cycles of its step. Those before it are reads, and none of them is a cycle of a switch;
+/// and a step in which no attempt is made has no such cycle.
+pub fn cycles_of_a_switch_stand_in_attempts()
+    ensures behind { (p after : ProcRecord) (ts : List AskRecord) → Follow p ts ≡ Whole after []
+        → AllByRecursion (λ (x : AttemptRecord × List AskRecord). IsBehindReads ts x.1) (attempts (step_phrase p) ts) }
+    ensures none { (p after : ProcRecord) (ts : List AskRecord) → Follow p ts ≡ Whole after [] → attempts (step_phrase p) ts ≡ []
+        → AllByRecursion (λ (t : AskRecord). is_of_a_switch t.role ≡ false) ts }
 {}
 
 /// What the definitions of a run and of what a call performs allow, and what they don't. Where no step may be made the empty

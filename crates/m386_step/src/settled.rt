@@ -1,12 +1,14 @@
-//! The state behind an instruction: with its trap, or with its fault pending.
+//! The state behind an instruction: with its trap, or with its fault pending; and behind a task switch.
 ghost use Rattle.std.specs.Prelude.{◌≡◌};
-ghost use Rattle.m386_step.specs.Settled.{faulted, traced, settled};
+ghost use Rattle.m386_step.specs.Settled.{faulted, traced, settled, behind_switch, behind_start};
 
 use m386_base::exception::Exception;
 use m386_base::fault::Fault;
 use m386_base::flags::{Flag, has_flag};
+use m386_checks::facts::Context;
 use m386_deliver::second::event_of;
-use m386_state::proc::Proc;
+use m386_state::proc::{Mode, Proc};
+use m386_switch::outcome::Switched;
 
 /// The state with the exception of an instruction pending.
 pub fn with_fault(p: &Proc, fault: Fault) -> Proc
@@ -40,5 +42,41 @@ pub fn settled(delivered: bool, before: &Proc, after: &Proc, fault: Option<Fault
         } else {
             with_trap(before, after)
         },
+    }
+}
+
+/// The state behind an instruction that came to a task switch. A row that failed in the old task is seen in the state before the
+/// instruction, one that failed in the new task in the new state. Behind a switch there is no trap.
+pub fn behind_switch(before: &Proc, came: &Switched) -> Proc
+    ensures { result ≡ behind_switch before.now came.now }
+{
+    match came.fail {
+        Some(fail) => match fail.context {
+            Context::Old => with_fault(before, fail.fault),
+            Context::New => with_fault(&came.after, fail.fault),
+        },
+        None => came.after,
+    }
+}
+
+/// The state with the processor shut down.
+fn shut_down(p: &Proc) -> Proc
+    ensures { result ≡ record p.now { mode = Mode.Shutdown } }
+{
+    let mut after = *p;
+    after.mode = Mode::Shutdown;
+    after
+}
+
+/// The state behind the start of a task. There is no old task in which a failed row could be seen: the processor shuts down.
+pub fn behind_start(before: &Proc, came: &Switched) -> Proc
+    ensures { result ≡ behind_start before.now came.now }
+{
+    match came.fail {
+        Some(fail) => match fail.context {
+            Context::Old => shut_down(before),
+            Context::New => with_fault(&came.after, fail.fault),
+        },
+        None => came.after,
     }
 }

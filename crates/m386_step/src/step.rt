@@ -2,23 +2,39 @@
 ghost use Rattle.std.specs.Prelude.{◌≡◌, ◌≢◌, ◌+◌, ◌<◌, ◌≤◌, false, [], length, OnOk, OnErr, MatchResult};
 ghost use Rattle.m386_base.specs.declared.ask.Ask.{Ask as AskRecord};
 ghost use Rattle.m386_base.specs.Phrase.{PerformsOrStops, IsJudged, Whole, Wants, SameBus, Stopped, it};
-ghost use Rattle.m386_step.specs.Step.{step_phrase, running_phrase, without_start};
+ghost use Rattle.m386_step.specs.Step.{step_phrase, running_phrase, start_phrase, without_start};
 
 use crate::events::{at_delivery, deliver_event, due};
 use crate::instruction::instruction;
-use crate::settled::with_fault;
+use crate::settled::{behind_start, with_fault};
 use m386_base::bus::Bus;
 use m386_base::fault::{Break, Stop};
+use m386_base::kind::SwitchKind;
 use m386_state::proc::{Mode, Proc};
+use m386_switch::switch::switch;
+use m386_transfer::executed::came;
 
-/// The state of a processor whose task hasn't been started, as long as no start is built: it is shut down.
+/// The state that owes no start any more.
 fn without_start(p: &Proc) -> Proc
     ensures { result ≡ without_start p.now }
 {
     let mut after = *p;
     after.start = None;
-    after.mode = Mode::Shutdown;
     after
+}
+
+/// The start of a processor in its first task: a switch that leaves no task. Where one of rows 1 to 7 fails the processor shuts down, and
+/// a row of the new task is pending there.
+#[tactic(auto, using(m386_base::proofs::Phrases::calls), unfolding(crate::specs::Step::start_phrase))]
+fn start<B: Bus>(p: &Proc, bus: &mut B, selector: u16) -> Result<Proc, Stop>
+    requires free { (B.view bus.old).kept ≡ false }
+    ensures cycles { PerformsOrStops (start_phrase p.now selector) (B.view bus.old) (B.view bus.new) it result }
+    ensures free { (B.view bus.new).kept ≡ false }
+{
+    let begun = without_start(p);
+    let mut after = begun;
+    let outcome = switch(&mut after, bus, SwitchKind::Start, selector, false, false)?;
+    Ok(behind_start(&begun, &came(after, outcome)))
 }
 
 /// One instruction, with its fault pending afterwards. The registers are then as at the step's start.
@@ -44,8 +60,8 @@ pub fn advance<B: Bus>(p: &mut Proc, bus: &mut B) -> Result<(), Stop>
     ensures free { (B.view bus.new).kept ≡ false }
     ensures stopped { OnErr result (p.new ≡ p.old) }
 {
-    if p.start.is_some() {
-        *p = without_start(p);
+    if let Some(selector) = p.start {
+        *p = start(p, bus, selector)?;
         return Ok(());
     }
     if let Some(event) = due(p) {

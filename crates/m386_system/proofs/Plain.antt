@@ -22,6 +22,7 @@ use Rattle.m386_access.specs.Ordinary.{Ordinary, Reads, Keeps, PlainFrom, has_ro
 use Rattle.m386_access.specs.declared.operands.Operands.{Operands}
 use Rattle.m386_access.proofs.Phrases.{plain, Stays, few_pieces, some_pieces, read_then}
 use Rattle.m386_segload.proofs.Loads.{local_table_then}
+use Rattle.m386_system.specs.Claims.{loads_task, is_task_load}
 use Rattle.m386_system.specs.Control.{load_control_phrase, load_status_phrase, load_status_operand_phrase, store_word_phrase, with_control}
 use Rattle.m386_system.specs.Coprocessor.{wait_phrase, escape_phrase}
 use Rattle.m386_system.specs.Exec.{privileged_phrase, at_level_0_phrase, unprivileged_phrase, work_phrase, exec_phrase}
@@ -135,19 +136,20 @@ escape_plain : (p : Proc) → PlainFrom 6 p escape_phrase
 unfolding escape_phrase
 escape_plain p = search plain
 
--- each privileged operation, one line
-privileged_plain : (what : Privileged) (op : Op) (p : Proc) → PlainFrom 6 p (privileged_phrase what op p)
-privileged_plain privileged.Halt op p = search plain
-privileged_plain (privileged.LoadTable table) op p = load_plain p table op.width (operands_of op)
-privileged_plain privileged.LoadLocalTable op p = load_local_plain p (operands_of op)
-privileged_plain privileged.LoadStatus op p = load_status_plain p (operands_of op)
-privileged_plain (privileged.LoadControl register) op p = load_control_plain p register
-privileged_plain (privileged.StoreControl register) op p = search plain
-privileged_plain privileged.ClearTaskSwitched op p = search (plain, stays_control)
+-- each privileged operation but LTR, one line
+privileged_plain : (what : Privileged) (op : Op) (p : Proc) → loads_task (Some (kinds.Privileged what)) ≡ false → PlainFrom 6 p (privileged_phrase what op p)
+privileged_plain privileged.Halt op p e = search plain
+privileged_plain (privileged.LoadTable table) op p e = load_plain p table op.width (operands_of op)
+privileged_plain privileged.LoadLocalTable op p e = load_local_plain p (operands_of op)
+privileged_plain privileged.LoadTask op p e = absurd cc
+privileged_plain privileged.LoadStatus op p e = load_status_plain p (operands_of op)
+privileged_plain (privileged.LoadControl register) op p e = load_control_plain p register
+privileged_plain (privileged.StoreControl register) op p e = search plain
+privileged_plain privileged.ClearTaskSwitched op p e = search (plain, stays_control)
 
-at_level_0_plain : (what : Privileged) (op : Op) (p : Proc) → PlainFrom 6 p (at_level_0_phrase what op p)
+at_level_0_plain : (what : Privileged) (op : Op) (p : Proc) → loads_task (Some (kinds.Privileged what)) ≡ false → PlainFrom 6 p (at_level_0_phrase what op p)
 unfolding at_level_0_phrase
-at_level_0_plain what op p = plain_if 6 (Ordinary p.gdtr) (Keeps p) [] (cpl_of p == 0) _ _ (privileged_plain what op p) (plain_faults 6 (Ordinary p.gdtr) (Keeps p) [] _)
+at_level_0_plain what op p e = plain_if 6 (Ordinary p.gdtr) (Keeps p) [] (cpl_of p == 0) _ _ (privileged_plain what op p e) (plain_faults 6 (Ordinary p.gdtr) (Keeps p) [] _)
 
 -- each other operation, one line
 unprivileged_plain : (what : Unprivileged) (op : Op) (p : Proc) → PlainFrom 6 p (unprivileged_phrase what op p)
@@ -157,11 +159,11 @@ unprivileged_plain (unprivileged.PutInterrupts value) op p = put_interrupts_plai
 unprivileged_plain unprivileged.Wait op p = wait_plain p
 unprivileged_plain unprivileged.Escape op p = escape_plain p
 
-work_plain : (work : Option Work) (op : Op) (p : Proc) → PlainFrom 6 p (work_phrase work op p)
-work_plain (Some (kinds.Privileged what)) op p = at_level_0_plain what op p
-work_plain (Some (kinds.Unprivileged what)) op p = unprivileged_plain what op p
-work_plain None op p = search plain
+pub work_plain : (work : Option Work) (op : Op) (p : Proc) → loads_task work ≡ false → PlainFrom 6 p (work_phrase work op p)
+work_plain (Some (kinds.Privileged what)) op p e = at_level_0_plain what op p e
+work_plain (Some (kinds.Unprivileged what)) op p e = unprivileged_plain what op p
+work_plain None op p e = search plain
 
-pub exec_plain : (op : Op) (p : Proc) → PlainFrom 6 p (exec_phrase op p)
-unfolding exec_phrase
-exec_plain op p = work_plain (work_of op.name op.args.items) op p
+pub exec_plain : (op : Op) (p : Proc) → is_task_load op ≡ false → PlainFrom 6 p (exec_phrase op p)
+unfolding exec_phrase is_task_load
+exec_plain op p e = work_plain (work_of op.name op.args.items) op p e

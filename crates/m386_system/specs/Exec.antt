@@ -12,6 +12,7 @@ use Rattle.m386_system.specs.Coprocessor.{escape_phrase, wait_phrase}
 use Rattle.m386_system.specs.Halt.{halted}
 use Rattle.m386_system.specs.Interrupts.{put_interrupts_phrase}
 use Rattle.m386_system.specs.Tables.{load_phrase, load_local_phrase, store_phrase}
+use Rattle.m386_system.specs.Task.{load_task_phrase}
 use Rattle.m386_system.specs.Work.{work_of}
 use Rattle.m386_system.specs.declared.work.Privileged.{Privileged}
 use Rattle.m386_system.specs.declared.work.Privileged.TheVariants as privileged
@@ -25,6 +26,7 @@ abbrev pub privileged_phrase : Privileged → Op → Proc → Phrase Proc
 privileged_phrase privileged.Halt op p = Done (halted p)
 privileged_phrase (privileged.LoadTable table) op p = load_phrase p table op.width (operands_of op)
 privileged_phrase privileged.LoadLocalTable op p = load_local_phrase p (operands_of op)
+privileged_phrase privileged.LoadTask op p = load_task_phrase p (operands_of op)
 privileged_phrase privileged.LoadStatus op p = load_status_phrase p (operands_of op)
 privileged_phrase (privileged.LoadControl register) op p = load_control_phrase p register
 privileged_phrase (privileged.StoreControl register) op p = Done (with_register p register p.cr0)

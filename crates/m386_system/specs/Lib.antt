@@ -1,7 +1,9 @@
+pub mod Claims
 pub mod Control
 pub mod Coprocessor
 pub mod Exec
 pub mod Halt
 pub mod Interrupts
 pub mod Tables
+pub mod Task
 pub mod Work

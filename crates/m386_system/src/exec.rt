@@ -8,6 +8,7 @@ use crate::coprocessor::{escape, wait};
 use crate::halt::halted;
 use crate::interrupts::put_interrupts;
 use crate::tables::{load, load_local, store};
+use crate::task::load_task;
 use crate::work::{Privileged, Unprivileged, Work, work_of};
 use m386_access::after::with_register;
 use m386_access::operands::operands_of;
@@ -41,6 +42,7 @@ fn perform_privileged<B: Bus>(
         Privileged::Halt => Ok(halted(p)),
         Privileged::LoadTable(table) => load(p, bus, table, op.width, operands_of(op)),
         Privileged::LoadLocalTable => load_local(p, bus, operands_of(op)),
+        Privileged::LoadTask => load_task(p, bus, operands_of(op)),
         Privileged::LoadStatus => load_status(p, bus, operands_of(op)),
         Privileged::LoadControl(register) => load_control(p, bus, register),
         Privileged::StoreControl(register) => Ok(with_register(p, register, p.cr0)),

@@ -8,4 +8,5 @@ pub mod halt;
 pub mod interrupts;
 pub mod laws;
 pub mod tables;
+pub mod task;
 pub mod work;

@@ -34,6 +34,8 @@ pub enum Privileged {
     LoadTable(Table),
     /// LLDT.
     LoadLocalTable,
+    /// LTR.
+    LoadTask,
     /// LMSW.
     LoadStatus,
     /// MOV to CR0 from a general register, by its number.
@@ -92,6 +94,7 @@ pub fn work_of(name: Name, args: &[Arg]) -> Option<Work>
         Name::Lgdt => Work::Privileged(Privileged::LoadTable(Table::Global)),
         Name::Lidt => Work::Privileged(Privileged::LoadTable(Table::Interrupts)),
         Name::Lldt => Work::Privileged(Privileged::LoadLocalTable),
+        Name::Ltr => Work::Privileged(Privileged::LoadTask),
         Name::Lmsw => Work::Privileged(Privileged::LoadStatus),
         Name::Clts => Work::Privileged(Privileged::ClearTaskSwitched),
         Name::Sgdt => Work::Unprivileged(Unprivileged::StoreTable(Table::Global)),
