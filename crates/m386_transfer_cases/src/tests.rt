@@ -3,6 +3,7 @@ mod call_gates;
 mod inner_stacks;
 mod near;
 mod returns;
+mod tasks;
 mod transfers;
 
 use m386_worked::cases::{Case, bus_of, over_bytes, over_values};

@@ -16,7 +16,7 @@ use m386_step::step::step;
 const DATA: [u8; 8] = [0x11, 0x22, 0x33, 0x44, 0x55, 0x66, 0x77, 0x88];
 
 /// The most cycles of a case.
-const MOST: usize = 24;
+const MOST: usize = 64;
 
 /// A step: the state before it, the bytes at 1000h, its cycles with what they read, and the state after it.
 #[derive(Clone, Copy)]
@@ -27,7 +27,7 @@ pub struct Case<'a> {
     pub before: Proc,
     /// The bytes at 1000h, at most 16.
     pub code: &'a [u8],
-    /// Its cycles, at most 24, in their order.
+    /// Its cycles, at most 64, in their order.
     pub cycles: &'a [Ask],
     /// The state after it.
     pub after: Proc,

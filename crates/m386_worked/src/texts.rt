@@ -28,7 +28,7 @@ struct Draft<'a> {
     before: Proc,
     bytes: ArrayVec<u8, 16>,
     words: ArrayVec<Word, 16>,
-    cycles: ArrayVec<Ask, 24>,
+    cycles: ArrayVec<Ask, 64>,
     count: Option<usize>,
     goes_on: bool,
     after: Proc,

@@ -109,17 +109,17 @@ fn an_operation_that_isnt_built_is_fetched_whole(rt: HostRuntime) {
             after: pending(&p, 6, None),
         },
         Case {
-            name: "LTR AX, over the end of a group",
+            name: "IN AX, 78h, over the end of a group",
             before: last,
-            code: &[0, 0, 0, 0x0f, 0, 0xd8],
-            cycles: &[fetch(0x1000, 0x0f00_0000), fetch(0x1004, 0xd800)],
+            code: &[0, 0, 0, 0x66, 0xe5, 0x78],
+            cycles: &[fetch(0x1000, 0x6600_0000), fetch(0x1004, 0x78e5)],
             after: pending(&last, 6, None),
         },
         Case {
-            name: "LTR DS:[1010h], with its prefix",
+            name: "OUT 78h, EAX, with a prefix of a segment",
             before: p,
-            code: &[0x3e, 0x0f, 0, 0x1d, 0x10, 0x10, 0, 0],
-            cycles: &[fetch(0x1000, 0x1d00_0f3e), fetch(0x1004, 0x1010)],
+            code: &[0x3e, 0xe7, 0x78],
+            cycles: &[fetch(0x1000, 0x0078_e73e)],
             after: pending(&p, 6, None),
         },
         Case {
