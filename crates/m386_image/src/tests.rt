@@ -450,10 +450,12 @@ fn a_processor_starts_in_a_task_by_its_bit(rt: HostRuntime) -> Result<(), Fail> 
         let mut bytes = Vec::from_slice(rt.alloc(), &APART)?;
         bytes[7] = flags;
         let image = read_image(rt.alloc(), &bytes)?;
-        assert_eq!(rt; (image.flags, image.starts), (flags, starts));
+        assert_eq!(rt; image.flags, flags);
+        assert_eq!(rt; image.starts, starts);
         let written = write_image(rt.alloc(), &image)?;
         let again = read_image(rt.alloc(), &written)?;
-        assert_eq!(rt; (again.flags, again.starts), (flags, starts));
+        assert_eq!(rt; again.flags, flags);
+        assert_eq!(rt; again.starts, starts);
     }
     Ok(())
 }
