@@ -3,7 +3,6 @@ use super::segments::{leveled, table};
 use super::{Case, at, fetch, flagged, joined, loaded, step_over_values};
 use m386_base::ask::Role;
 use m386_state::proc::Proc;
-use m386_worked::texts::all_made;
 use std::process::Abort;
 
 /// LAR EAX, ECX; LSL EAX, ECX; VERR CX; VERW CX.
@@ -99,7 +98,7 @@ fn nothing_is_found_outside_the_tables(rt: HostRuntime) {
 }
 
 /// LAR, LSL, VERR and VERW with operands of each kind.
-const WIDTHS: &str = "\
+pub(crate) const WIDTHS: &str = "\
 start ecx=c0c10017 ldtr=20:1900:17:82:0 gdtr=1800:17
 LAR EAX, ECX
  r fetch 0 1000 f c1020f
@@ -143,11 +142,6 @@ VERW [FFFFFFFFh], past the last offset
 ";
 
 #[test]
-fn looks_have_operands_of_their_widths(rt: HostRuntime) {
-    assert_eq!(rt; all_made(WIDTHS), Ok(7));
-}
-
-#[test]
 fn an_rpl_is_raised_in_a_register(rt: HostRuntime) {
     for (destination, source, result, flags) in [
         (0xa0a1_1230, 0xc0c1_0003, 0xa0a1_1233, 0x8d7),
@@ -170,7 +164,7 @@ fn an_rpl_is_raised_in_a_register(rt: HostRuntime) {
 }
 
 /// ARPL in memory.
-const RAISED: &str = "\
+pub(crate) const RAISED: &str = "\
 start ecx=c0c10002 flags=897 ldtr=20:1900:17:82:0 gdtr=1800:17
 ARPL [1010h], CX
  r fetch 0 1000 f 10100d63
@@ -202,8 +196,3 @@ ARPL [FFFFFFFFh], CX, past the last offset
  r fetch 0 1004 f ffff
  after pending=d:0
 ";
-
-#[test]
-fn an_rpl_is_raised_in_memory(rt: HostRuntime) {
-    assert_eq!(rt; all_made(RAISED), Ok(5));
-}

@@ -1,8 +1,7 @@
 //! LDS, LES, LFS, LGS and LSS.
-use m386_worked::texts::all_made;
 
 /// A pointer of each register.
-const POINTERS: &str = "\
+pub(crate) const POINTERS: &str = "\
 start ldtr=20:1900:17:82:0 gdtr=1800:17
 LDS EAX, [1010h]
  r fetch 0 1000 f 101005c5
@@ -44,13 +43,8 @@ LDS EAX, [FFFFFFFCh], whose selector stands at 0
  after eip=1006 eax=44332211 ds=-3:0:0:0:0
 ";
 
-#[test]
-fn a_pointer_is_an_offset_and_a_selector(rt: HostRuntime) {
-    assert_eq!(rt; all_made(POINTERS), Ok(5));
-}
-
 /// A pointer at an odd address.
-const SPLIT: &str = "\
+pub(crate) const SPLIT: &str = "\
 start ldtr=20:1900:17:82:0 gdtr=1803:17
 LFS EDX, [1013h]
  r fetch 0 1000 f 1315b40f
@@ -67,13 +61,8 @@ LFS EDX, [1013h]
  after eip=1007 edx=77665544 fs=10:0:ffff:92:4
 ";
 
-#[test]
-fn each_part_of_a_pointer_may_be_split(rt: HostRuntime) {
-    assert_eq!(rt; all_made(SPLIT), Ok(1));
-}
-
 /// Pointers that are refused.
-const FAULTS: &str = "\
+pub(crate) const FAULTS: &str = "\
 start ldtr=20:1900:17:82:0 gdtr=1800:17
 LDS EAX, [1010h], not present
  r fetch 0 1000 f 101005c5
@@ -104,8 +93,3 @@ LDS EAX, EAX, which is no instruction
  r fetch 0 1000 f c0c5
  after pending=6
 ";
-
-#[test]
-fn a_fault_leaves_both_registers(rt: HostRuntime) {
-    assert_eq!(rt; all_made(FAULTS), Ok(5));
-}

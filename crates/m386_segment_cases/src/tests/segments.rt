@@ -9,7 +9,6 @@ use m386_memory::fixed::FixedBus;
 use m386_state::proc::{Mode, Proc, start_bare, unusable};
 use m386_state::segment::{Seg, TableReg};
 use m386_step::alone::step_alone;
-use m386_worked::texts::all_made;
 use std::process::Abort;
 
 /// A group of a descriptor, read at the beginning of a locked group.
@@ -312,7 +311,7 @@ fn a_descriptor_is_read_and_marked_at_any_address(rt: HostRuntime) {
 }
 
 /// MOV from a segment register.
-const STORES: &str = "\
+pub(crate) const STORES: &str = "\
 start cs=b:0:fffff:9b:c ss=1234:0:fffff:93:c ldtr=20:1900:17:82:0 gdtr=1800:17
 MOV EAX, SS
  r fetch 0 1000 f d08c
@@ -340,13 +339,8 @@ MOV [FFFFFFFFh], SS, past the last offset
  after pending=d:0
 ";
 
-#[test]
-fn sixteen_bits_of_a_segment_register_are_stored(rt: HostRuntime) {
-    assert_eq!(rt; all_made(STORES), Ok(6));
-}
-
 /// MOV to a segment register from memory.
-const MEMORY: &str = "\
+pub(crate) const MEMORY: &str = "\
 start ldtr=20:1900:17:82:0 gdtr=1800:17
 MOV DS, [1012h]
  r fetch 0 1000 f 10121d8e
@@ -370,13 +364,8 @@ MOV DS, [FFFFFFFFh], past the last offset
  after pending=d:0
 ";
 
-#[test]
-fn a_selector_in_memory_is_two_bytes(rt: HostRuntime) {
-    assert_eq!(rt; all_made(MEMORY), Ok(3));
-}
-
 /// MOV to SS and the instruction behind it.
-const SHADOWS: &str = "\
+pub(crate) const SHADOWS: &str = "\
 start eax=a0a10010 flags=202 ldtr=20:1900:17:82:0 gdtr=1800:17
 MOV SS, AX
  r fetch 0 1000 f d08e
@@ -395,13 +384,8 @@ NOP under the shadow
  after eip=1003 shadow=0
 ";
 
-#[test]
-fn a_load_of_ss_holds_requests_back_and_lets_a_trap_through(rt: HostRuntime) {
-    assert_eq!(rt; all_made(SHADOWS), Ok(3));
-}
-
 /// Accesses through a segment that was loaded.
-const LIMITS: &str = "\
+pub(crate) const LIMITS: &str = "\
 start ss=10:0:ffff:93:4 ds=10:0:ffff:93:4 ldtr=20:1900:17:82:0 gdtr=1800:17
 MOV EAX, [FFFCh]
  r fetch 0 1000 f fffca1
@@ -417,11 +401,6 @@ MOV EAX, SS:[FFFDh]
  r fetch 0 1004 f 0
  after pending=c:0
 ";
-
-#[test]
-fn an_access_ends_at_the_limit_of_a_loaded_segment(rt: HostRuntime) {
-    assert_eq!(rt; all_made(LIMITS), Ok(3));
-}
 
 /// A memory of 16,384 bytes: code at 1000h, and at 1810h a descriptor of four bytes at 2000h.
 fn small_segment() -> FixedBus<0x4000> {

@@ -1,9 +1,9 @@
 //! Operations of the stack: each in both widths, on stacks of each kind, with the cycles and the faults worked out by hand. The
 //! bytes at 1010h are 11h to 88h; what an instruction pops lies there, or behind its own bytes.
-mod flags;
-mod registers;
-mod segments;
-mod single;
+pub(super) mod flags;
+pub(super) mod registers;
+pub(super) mod segments;
+pub(super) mod single;
 
 use super::{Case, bare, loaded, read, step_over_bytes, step_over_values, write};
 use m386_base::ask::{Ask, Role};

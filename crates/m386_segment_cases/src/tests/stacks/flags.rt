@@ -8,11 +8,10 @@ use m386_base::bus::Bus;
 use m386_memory::fixed::FixedBus;
 use m386_state::proc::{Mode, Proc};
 use m386_step::alone::step_alone;
-use m386_worked::texts::all_made;
 use std::process::Abort;
 
 /// PUSHF.
-const PUSHES: &str = "\
+pub(crate) const PUSHES: &str = "\
 start esp=1018 flags=7fd7
 PUSHF
  bytes 9c
@@ -30,11 +29,6 @@ PUSHF past the limit
  r fetch 0 1000 f 9c
  after pending=c:0
 ";
-
-#[test]
-fn flags_are_pushed(rt: HostRuntime) {
-    assert_eq!(rt; all_made(PUSHES), Ok(3));
-}
 
 /// The state at a level, with these flags.
 fn at_level(p: &Proc, level: u16, flags: u32) -> Proc {
@@ -91,7 +85,7 @@ fn popped_flags_go_by_level_and_iopl(rt: HostRuntime) {
 }
 
 /// POPF with TF, on stacks of both widths, and past the limit.
-const POPS: &str = "\
+pub(crate) const POPS: &str = "\
 start esp=1004
 POPF that sets TF, and isn't traced itself
  bytes 9d 00 00 00 02 01 00 00
@@ -116,11 +110,6 @@ POPF past the limit
  r fetch 0 1000 f 9d
  after pending=c:0
 ";
-
-#[test]
-fn popped_flags_trap_and_fault(rt: HostRuntime) {
-    assert_eq!(rt; all_made(POPS), Ok(4));
-}
 
 /// One step of a program: its cycles, and the state after it.
 fn next(rt: &impl Abort, p: &mut Proc, bus: &mut FixedBus<0x2000>, cycles: &[Ask], after: Proc)

@@ -3,7 +3,6 @@ use super::{DOWNWARD, EAX, EBP, WRITABLE, behind, big, one, pop, push, small, wi
 use crate::tests::{Case, fetch, pending, step_over_values};
 use m386_base::ask::Ask;
 use m386_state::proc::Proc;
-use m386_worked::texts::all_made;
 
 /// The places of the other registers.
 const ECX: usize = 1;
@@ -17,7 +16,7 @@ const ESI: usize = 6;
 const EDI: usize = 7;
 
 /// PUSHA in both widths, on stacks of both.
-const PUSHES: &str = "\
+pub(crate) const PUSHES: &str = "\
 start esp=ff0
 PUSHA, with the ESP before it
  bytes 60
@@ -78,11 +77,6 @@ PUSHA on a stack of 16 bits, over 0
  w push 0 ffec f 70717273
  after eip=1001 esp=7fffffec
 ";
-
-#[test]
-fn all_registers_are_pushed(rt: HostRuntime) {
-    assert_eq!(rt; all_made(PUSHES), Ok(4));
-}
 
 #[test]
 fn each_push_of_all_is_tested_as_it_is_made(rt: HostRuntime) {
@@ -168,7 +162,7 @@ const DIGITS: [u32; 7] = [
 ];
 
 /// POPA in both widths.
-const POPS: &str = "\
+pub(crate) const POPS: &str = "\
 start esp=ff8
 POPA from bytes around its own
  bytes 61 01 02 03 04 05 06 07 18 19 1a 1b 1c 1d 1e 1f
@@ -205,11 +199,6 @@ POPA
  r pop 0 201c f aaaaaaaa
  after eip=1001 eax=aaaaaaaa ecx=11111111 edx=22222222 ebx=33333333 esp=2020 ebp=55555555 esi=66666666 edi=77777777
 ";
-
-#[test]
-fn all_registers_are_popped_but_esp(rt: HostRuntime) {
-    assert_eq!(rt; all_made(POPS), Ok(3));
-}
 
 #[test]
 fn each_pop_of_all_is_tested_as_it_is_made(rt: HostRuntime) {
@@ -276,7 +265,7 @@ fn the_place_of_esp_is_not_tested(rt: HostRuntime) {
 }
 
 /// LEAVE in both widths, on stacks of both.
-const LEAVES: &str = "\
+pub(crate) const LEAVES: &str = "\
 start ebp=1010
 LEAVE
  bytes c9
@@ -322,8 +311,3 @@ LEAVE of 16 bits to the limit
  r pop 0 1010 3 2211
  after eip=1002 esp=1012 ebp=2211
 ";
-
-#[test]
-fn leave_takes_the_frame(rt: HostRuntime) {
-    assert_eq!(rt; all_made(LEAVES), Ok(8));
-}

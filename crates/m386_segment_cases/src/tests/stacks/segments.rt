@@ -7,7 +7,6 @@ use m386_base::ask::{Ask, Role};
 use m386_base::desc::Desc;
 use m386_state::proc::{Proc, unusable};
 use m386_state::segment::{Seg, TableReg};
-use m386_worked::texts::all_made;
 
 /// The state whose GDT ends with the descriptor of selector 10h.
 fn with_table(p: &Proc) -> Proc {
@@ -214,7 +213,7 @@ fn a_pop_stands_where_the_load_faults(rt: HostRuntime) {
 }
 
 /// POP SS from a stack of one width to one of the other.
-const STACKS: &str = "\
+pub(crate) const STACKS: &str = "\
 start esp=1004 ss=18:0:1006:93:4 gdtr=ff8:17
 POP SS from a stack of 32 bits to one of 16
  before esp=fffc ss=18:ffff1008:ffff:93:4
@@ -245,8 +244,3 @@ POP DS past the limit of the stack
  r fetch 0 1000 f 1f
  after pending=c:0
 ";
-
-#[test]
-fn the_pointer_goes_by_the_stack_that_was_popped_from(rt: HostRuntime) {
-    assert_eq!(rt; all_made(STACKS), Ok(4));
-}

@@ -1,10 +1,9 @@
 //! PUSH and POP of general registers, numbers, memory and, pushed alone, segment registers.
 use super::{behind, flat, one, push};
 use crate::tests::fetch;
-use m386_worked::texts::all_made;
 
 /// PUSH of each kind of operand.
-const PUSHES: &str = "\
+pub(crate) const PUSHES: &str = "\
 start esp=1018
 PUSH EAX
  bytes 50
@@ -91,11 +90,6 @@ PUSH [1010h] on a stack that can't be used: the operand's read stands
 ";
 
 #[test]
-fn pushes_write_below_the_top(rt: HostRuntime) {
-    assert_eq!(rt; all_made(PUSHES), Ok(14));
-}
-
-#[test]
 fn segment_registers_are_pushed_with_zeros_above(rt: HostRuntime) {
     let mut p = flat(0x1018);
     let (data, code) = (p.segs[0], p.segs[1]);
@@ -135,7 +129,7 @@ fn segment_registers_are_pushed_with_zeros_above(rt: HostRuntime) {
 }
 
 /// PUSH EAX at the ends of stacks of each kind.
-const TESTED_PUSHES: &str = "\
+pub(crate) const TESTED_PUSHES: &str = "\
 start esp=0
 to the first byte of all
  before esp=4
@@ -243,13 +237,8 @@ with a base whose sum comes round
  after eip=1001 esp=2000
 ";
 
-#[test]
-fn each_push_is_tested(rt: HostRuntime) {
-    assert_eq!(rt; all_made(TESTED_PUSHES), Ok(19));
-}
-
 /// POP EAX at the ends of stacks of each kind.
-const TESTED_POPS: &str = "\
+pub(crate) const TESTED_POPS: &str = "\
 start esp=1010 ss=18:0:1013:93:4
 from the last bytes of all to 0
  before esp=fffffffc ss=10:0:fffff:93:c
@@ -318,13 +307,8 @@ that can't be used
  after pending=c:0
 ";
 
-#[test]
-fn each_pop_is_tested(rt: HostRuntime) {
-    assert_eq!(rt; all_made(TESTED_POPS), Ok(12));
-}
-
 /// POP to each kind of operand.
-const POPS: &str = "\
+pub(crate) const POPS: &str = "\
 start esp=1010
 POP EAX, split over two groups
  before esp=1011
@@ -379,13 +363,8 @@ POP [ESP], both split over two groups
  after eip=1003 esp=1015
 ";
 
-#[test]
-fn pops_move_the_pointer_before_they_put(rt: HostRuntime) {
-    assert_eq!(rt; all_made(POPS), Ok(8));
-}
-
 /// POP to memory that can't be written.
-const FAULTS: &str = "\
+pub(crate) const FAULTS: &str = "\
 start esp=1010
 POP [FFFFFFFEh], past the last offset
  bytes 8f 05 fe ff ff ff
@@ -418,8 +397,3 @@ POP [FFFFFFFEh], whose pop is past the limit
  r fetch 0 1004 f ffff
  after pending=c:0
 ";
-
-#[test]
-fn a_pop_stands_where_the_write_faults(rt: HostRuntime) {
-    assert_eq!(rt; all_made(FAULTS), Ok(5));
-}
