@@ -13,8 +13,6 @@ use m386_base::fault::Stop;
 use m386_base::list::List;
 use m386_image::image::{Image, TableAt};
 use m386_image::reading::read_image;
-use m386_state::proc::{Mode, start_task};
-use m386_state::segment::TableReg;
 use m386_step::begin::{first_store, start};
 use m386_step::run::run;
 use m386_worked::cases::{Case, bus_of, over_bytes, over_values};
@@ -81,11 +79,6 @@ MOV [FFFFFFFDh], EAX, past the last offset
  after pending=d:0
 ";
 
-#[test]
-fn moves_make_their_cycles(rt: HostRuntime) {
-    assert_eq!(rt; all_made(MOVES), Ok(7));
-}
-
 /// Calculations with memory, locked and not.
 const CALCULATIONS: &str = "\
 ADD [1011h], EAX, split over two groups
@@ -134,11 +127,6 @@ LEA EAX, [1011h]
  after eip=1006 eax=1011
 ";
 
-#[test]
-fn calculations_make_their_cycles(rt: HostRuntime) {
-    assert_eq!(rt; all_made(CALCULATIONS), Ok(6));
-}
-
 /// XCHG, which is locked with and without its prefix.
 const EXCHANGES: &str = "\
 XCHG [1010h], ECX
@@ -168,11 +156,6 @@ XCHG EBP, EAX, which makes no cycle of its own
  after eip=1002 eax=50515253 ebp=a0a1a2a3
 ";
 
-#[test]
-fn exchange_is_one_locked_group(rt: HostRuntime) {
-    assert_eq!(rt; all_made(EXCHANGES), Ok(4));
-}
-
 /// JMP with a distance.
 const JUMPS: &str = "\
 JMP 5, past the last offset
@@ -198,11 +181,6 @@ JMP FFFFFFF0h from the last two bytes
  r fetch 0 fffffffc f f0eb0000
  after eip=fffffff0
 ";
-
-#[test]
-fn jumps_are_taken_modulo_2_to_the_32(rt: HostRuntime) {
-    assert_eq!(rt; all_made(JUMPS), Ok(5));
-}
 
 /// Turns without an instruction. The IDT has no entry: what is delivered meets #GP, whose code names the entry, with EXT.
 const TURNS: &str = "\
@@ -248,11 +226,6 @@ the start of a task
  after mode=shutdown start=none
 ";
 
-#[test]
-fn a_turn_without_an_instruction_makes_no_cycle(rt: HostRuntime) {
-    assert_eq!(rt; all_made(TURNS), Ok(10));
-}
-
 /// What an instruction leaves pending.
 const ENDS: &str = "\
 HLT
@@ -289,11 +262,6 @@ JMP 1000h under a shadow, with IF set and a request
  r fetch 0 1000 f feeb
  after shadow=0
 ";
-
-#[test]
-fn an_instruction_halts_faults_or_traps(rt: HostRuntime) {
-    assert_eq!(rt; all_made(ENDS), Ok(7));
-}
 
 #[test]
 fn a_run_ends_at_its_budget_or_in_shutdown(rt: HostRuntime) {
@@ -362,4 +330,84 @@ fn memory_begins_with_the_sections_of_the_image(rt: HostRuntime) -> Result<(), F
         assert_eq!(rt; store.read(Space::Port, addr, 15), 0, "port {addr:x}");
     }
     Ok(())
+}
+
+/// Texts of cases: what each shows, by the name that docs/PROVING.md has for it, and how many cases it has.
+static TEXTS: [(&str, &str, usize); 25] = [
+    ("moves_make_their_cycles", MOVES, 7),
+    ("calculations_make_their_cycles", CALCULATIONS, 6),
+    ("exchange_is_one_locked_group", EXCHANGES, 4),
+    ("jumps_are_taken_modulo_2_to_the_32", JUMPS, 5),
+    ("a_turn_without_an_instruction_makes_no_cycle", TURNS, 10),
+    ("an_instruction_halts_faults_or_traps", ENDS, 7),
+    (
+        "an_instruction_is_traced_by_tf_at_its_start",
+        boundaries::TRACED,
+        6,
+    ),
+    (
+        "events_are_delivered_before_an_instruction",
+        boundaries::DELIVERED,
+        4,
+    ),
+    ("a_delivery_ends_a_step_without_a_trap", events::SOFTWARE, 2),
+    (
+        "a_fault_of_a_delivery_is_that_of_its_instruction",
+        events::REFUSED,
+        2,
+    ),
+    ("into_goes_by_of", events::OVERFLOWS, 2),
+    ("iret_ends_as_an_instruction_does", events::IRETS, 3),
+    (
+        "events_are_delivered_before_instructions",
+        events::EVENTS,
+        5,
+    ),
+    (
+        "a_request_leaves_with_the_fault_of_its_delivery",
+        events::FAULTS,
+        3,
+    ),
+    ("the_source_alone_goes_by_the_prefix", strings::PREFIXES, 6),
+    (
+        "a_store_of_two_elements_takes_three_turns",
+        strings::STORES,
+        3,
+    ),
+    (
+        "a_comparison_ends_by_zf_or_by_the_count",
+        strings::COMPARISONS,
+        5,
+    ),
+    (
+        "a_fault_leaves_the_registers_of_its_turn",
+        strings::FAULTS,
+        2,
+    ),
+    ("each_turn_fetches_its_code_anew", strings::ANEW, 2),
+    ("each_turn_is_traced", strings::TRACED, 2),
+    (
+        "words_are_stored_with_16_bits_at_any_level",
+        system::STORES,
+        8,
+    ),
+    ("the_status_word_is_loaded", system::LMSWS, 5),
+    (
+        "table_registers_are_loaded_in_two_parts",
+        table_registers::LOADS,
+        7,
+    ),
+    (
+        "table_registers_are_stored_whole",
+        table_registers::STORES,
+        5,
+    ),
+    ("ldtr_is_loaded_from_each_place", table_registers::LLDTS, 4),
+];
+
+#[test]
+fn each_case_of_a_text_is_made(rt: HostRuntime) {
+    for (shows, text, count) in TEXTS.iter().copied() {
+        assert_eq!(rt; all_made(text), Ok(count), "{shows}");
+    }
 }

@@ -1,9 +1,8 @@
 //! Where a step ends and the next one begins: traps by TF, which counts as it stands at a step's start, and events. The IDT is at
 //! 2000h, the GDT at 3000h, the stack at 4000h. Flags are numbers: TF 100h, IF 200h, and bit 1, which is always 1.
-use m386_worked::texts::all_made;
 
 /// Instructions that change TF or don't, with TF set and clear before them.
-const TRACED: &str = "\
+pub(crate) const TRACED: &str = "\
 start esp=4000 flags=102 gdtr=3000:f idtr=2000:107
 INT 32 with TF set, which is delivered and not traced
  r fetch 0 1000 f 20cd
@@ -43,13 +42,8 @@ HLT with TF set
  after eip=1001 mode=halted pending=1
 ";
 
-#[test]
-fn an_instruction_is_traced_by_tf_at_its_start(rt: HostRuntime) {
-    assert_eq!(rt; all_made(TRACED), Ok(6));
-}
-
 /// A pending event, a request, and both.
-const DELIVERED: &str = "\
+pub(crate) const DELIVERED: &str = "\
 start esp=4000 flags=202 gdtr=3000:f idtr=2000:107
 a request wakes a halted processor, through an interrupt gate
  before mode=halted request=20
@@ -93,8 +87,3 @@ a pending event needs no IF, and comes under a shadow
  w push 0 3ff4 f 1000
  after eip=1100 esp=3ff4 pending=none shadow=0
 ";
-
-#[test]
-fn events_are_delivered_before_an_instruction(rt: HostRuntime) {
-    assert_eq!(rt; all_made(DELIVERED), Ok(4));
-}

@@ -1,9 +1,8 @@
 //! Steps that make a delivery, or return from a handler, with each cycle. The descriptor 0008 is that of the code, at 1000h, so its first
 //! byte is the opcode of the step; the gate of vector 3 stands at 1008h.
-use m386_worked::texts::all_made;
 
 /// INT3 with TF set and clear.
-const SOFTWARE: &str = "\
+pub(crate) const SOFTWARE: &str = "\
 start esp=1018 flags=4702 gdtr=ff8:f idtr=ff0:1f
 INT3 with TF set
  bytes cc ff 00 00 00 9b cf 00 44 00 08 00 00 8e 00 00
@@ -29,13 +28,8 @@ INT3 through a trap gate
  after eip=44 esp=100c flags=602 cs=8:0:fffcc:9b:c
 ";
 
-#[test]
-fn a_delivery_ends_a_step_without_a_trap(rt: HostRuntime) {
-    assert_eq!(rt; all_made(SOFTWARE), Ok(2));
-}
-
 /// INT n whose gate is refused.
-const REFUSED: &str = "\
+pub(crate) const REFUSED: &str = "\
 start esp=1018 gdtr=ff8:f idtr=ff0:1e
 INT3 through a task gate, which isn't built
  before flags=102 idtr=ff0:1f
@@ -50,13 +44,8 @@ INT3 past the limit of the IDT
  after pending=d:1a
 ";
 
-#[test]
-fn a_fault_of_a_delivery_is_that_of_its_instruction(rt: HostRuntime) {
-    assert_eq!(rt; all_made(REFUSED), Ok(2));
-}
-
 /// INTO with OF set and clear.
-const OVERFLOWS: &str = "\
+pub(crate) const OVERFLOWS: &str = "\
 start esp=1018 flags=102 gdtr=ff8:f idtr=ff0:1f
 OF clear: an instruction as any other, with its trap
  bytes ce ff 00 00 00 9b cf 00 44 00 08 00 00 8e 00 00
@@ -69,13 +58,8 @@ OF set: vector 4, past the limit of the IDT
  after pending=d:22
 ";
 
-#[test]
-fn into_goes_by_of(rt: HostRuntime) {
-    assert_eq!(rt; all_made(OVERFLOWS), Ok(2));
-}
-
 /// IRET with TF and NT set and clear.
-const IRETS: &str = "\
+pub(crate) const IRETS: &str = "\
 start esp=1008 gdtr=ff8:f idtr=ff0:1f
 IRET
  bytes cf ff 00 00 00 9b cf 00 44 00 08 00 08 00 77 77
@@ -103,13 +87,8 @@ IRET with NT set, before its pops
  after pending=d:0
 ";
 
-#[test]
-fn iret_ends_as_an_instruction_does(rt: HostRuntime) {
-    assert_eq!(rt; all_made(IRETS), Ok(3));
-}
-
 /// Events that are pending or requested.
-const EVENTS: &str = "\
+pub(crate) const EVENTS: &str = "\
 start esp=1018 flags=302 gdtr=ff8:f idtr=ff0:1f
 a pending event with a code, which ends a halt
  before mode=halted pending=3:1234
@@ -158,13 +137,8 @@ a request under a shadow
  after eip=1001 mode=halted pending=1 shadow=0
 ";
 
-#[test]
-fn events_are_delivered_before_instructions(rt: HostRuntime) {
-    assert_eq!(rt; all_made(EVENTS), Ok(5));
-}
-
 /// Deliveries that meet a fault.
-const FAULTS: &str = "\
+pub(crate) const FAULTS: &str = "\
 start esp=1018 flags=202 gdtr=ff8:f idtr=ff0:1f
 a gate that isn't present
  before mode=halted request=3
@@ -183,8 +157,3 @@ a double fault past the limit of the IDT: a shutdown
  bytes f4 ff 00 00 00 9b cf 00 44 00 08 00 00 0f 00 00
  after mode=shutdown pending=none
 ";
-
-#[test]
-fn a_request_leaves_with_the_fault_of_its_delivery(rt: HostRuntime) {
-    assert_eq!(rt; all_made(FAULTS), Ok(3));
-}

@@ -5,7 +5,6 @@ use super::{Case, at, bare, fetch, flagged, read, step_over_bytes, step_over_val
 use m386_base::ask::Ask;
 use m386_base::number::Flags;
 use m386_state::proc::Proc;
-use m386_worked::texts::all_made;
 use std::process::Abort;
 
 /// The places of EAX, ECX, ESI and EDI.
@@ -297,7 +296,7 @@ fn elements_are_compared(rt: HostRuntime) {
 }
 
 /// String operations with FS, whose base is 4, and at the ends of segments.
-const PREFIXES: &str = "\
+pub(crate) const PREFIXES: &str = "\
 start eax=88776655 ecx=1 esi=1010 edi=1010 es=18:0:1010:93:4 fs=20:4:ffff:93:4
 FS: MOVSB
  bytes 64 a4
@@ -336,13 +335,8 @@ LODSB backward at offset 0
  after eip=1001 eax=88776600 esi=ffffffff
 ";
 
-#[test]
-fn the_source_alone_goes_by_the_prefix(rt: HostRuntime) {
-    assert_eq!(rt; all_made(PREFIXES), Ok(6));
-}
-
 /// A store of two elements, turn by turn.
-const STORES: &str = "\
+pub(crate) const STORES: &str = "\
 start eax=88776655 ecx=2 esi=1010 edi=1010
 REP STOSD of two elements: the first
  bytes f3 ab
@@ -360,13 +354,8 @@ the turn behind them
  after eip=1002
 ";
 
-#[test]
-fn a_store_of_two_elements_takes_three_turns(rt: HostRuntime) {
-    assert_eq!(rt; all_made(STORES), Ok(3));
-}
-
 /// Comparisons, turn by turn.
-const COMPARISONS: &str = "\
+pub(crate) const COMPARISONS: &str = "\
 # These differ before the count is used up.
 start eax=88776655 ecx=3 esi=1010 edi=1004
 REPZ CMPSB of 11h 22h and 11h 99h: the first
@@ -401,13 +390,8 @@ the turn behind them
  after eip=1002
 ";
 
-#[test]
-fn a_comparison_ends_by_zf_or_by_the_count(rt: HostRuntime) {
-    assert_eq!(rt; all_made(COMPARISONS), Ok(5));
-}
-
 /// A move over the limit of ES, turn by turn.
-const FAULTS: &str = "\
+pub(crate) const FAULTS: &str = "\
 # The read of the second element stands, and its write faults.
 start eax=88776655 ecx=3 esi=1010 edi=1014 es=18:0:1014:93:4
 REP MOVSB over the limit of ES: the first
@@ -423,13 +407,8 @@ the second
  after pending=d:0
 ";
 
-#[test]
-fn a_fault_leaves_the_registers_of_its_turn(rt: HostRuntime) {
-    assert_eq!(rt; all_made(FAULTS), Ok(2));
-}
-
 /// A store over its own opcode, turn by turn.
-const ANEW: &str = "\
+pub(crate) const ANEW: &str = "\
 start eax=90 ecx=2 esi=1010 edi=1001
 REP STOSB over its own opcode, which NOP takes the place of
  bytes f3 aa
@@ -442,13 +421,8 @@ the NOP
  after eip=1002
 ";
 
-#[test]
-fn each_turn_fetches_its_code_anew(rt: HostRuntime) {
-    assert_eq!(rt; all_made(ANEW), Ok(2));
-}
-
 /// Repetitions with TF set.
-const TRACED: &str = "\
+pub(crate) const TRACED: &str = "\
 start eax=88776655 ecx=1 esi=1010 edi=1014 flags=102
 REP LODSB with TF set
  bytes f3 ac
@@ -461,8 +435,3 @@ REP STOSB with TF set and ECX 0, past the limit of ES
  r fetch 0 1000 f aaf3
  after eip=1002 pending=1
 ";
-
-#[test]
-fn each_turn_is_traced(rt: HostRuntime) {
-    assert_eq!(rt; all_made(TRACED), Ok(2));
-}

@@ -7,7 +7,6 @@ use super::{
 use m386_base::desc::Desc;
 use m386_state::proc::{Mode, Proc};
 use m386_state::segment::Seg;
-use m386_worked::texts::all_made;
 use std::process::Abort;
 
 /// Steps, each over its bytes and over its values.
@@ -137,7 +136,7 @@ fn privileged_operations_are_refused_before_their_operand(rt: HostRuntime) {
 }
 
 /// SMSW, SLDT and STR.
-const STORES: &str = "\
+pub(crate) const STORES: &str = "\
 start cs=b:0:fffff:9b:c ldtr=5678:0:ff:82:0 tr=-1234:0:0:0:0 cr0=b
 SLDT BX
  bytes 0f 00 c3
@@ -181,13 +180,8 @@ SMSW [FFFFFFFFh], past the last offset
  after pending=d:0
 ";
 
-#[test]
-fn words_are_stored_with_16_bits_at_any_level(rt: HostRuntime) {
-    assert_eq!(rt; all_made(STORES), Ok(8));
-}
-
 /// LMSW from a register and from memory.
-const LMSWS: &str = "\
+pub(crate) const LMSWS: &str = "\
 LMSW AX with PE clear, which stays
  before eax=fffffffa cr0=5
  bytes 0f 01 f0
@@ -215,11 +209,6 @@ CLTS where TS is clear
  r fetch 0 1000 f 60f
  after eip=1002
 ";
-
-#[test]
-fn the_status_word_is_loaded(rt: HostRuntime) {
-    assert_eq!(rt; all_made(LMSWS), Ok(5));
-}
 
 /// MOV CR0, EAX: what EAX has, and what CR0 comes to, where it isn't #GP(0).
 const CONTROL_LOADS: [(u32, Option<u32>); 8] = [

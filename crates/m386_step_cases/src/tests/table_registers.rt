@@ -5,7 +5,6 @@ use m386_base::ask::{Ask, Role};
 use m386_base::desc::Desc;
 use m386_state::proc::Proc;
 use m386_state::segment::{Seg, TableReg};
-use m386_worked::texts::all_made;
 
 /// The state with another register of the GDT.
 fn with_gdt(p: &Proc, base: u32, limit: u16) -> Proc {
@@ -20,7 +19,7 @@ fn of_role(role: Role, ask: Ask) -> Ask {
 }
 
 /// LGDT and LIDT.
-const LOADS: &str = "\
+pub(crate) const LOADS: &str = "\
 LGDT [1010h]
  bytes 0f 01 15 10 10 00 00
  r fetch 0 1000 f 1015010f
@@ -71,13 +70,8 @@ LIDT [FFFFFFFFh], whose limit passes the last offset
  after pending=d:0
 ";
 
-#[test]
-fn table_registers_are_loaded_in_two_parts(rt: HostRuntime) {
-    assert_eq!(rt; all_made(LOADS), Ok(7));
-}
-
 /// SGDT and SIDT.
-const STORES: &str = "\
+pub(crate) const STORES: &str = "\
 start cs=b:0:fffff:9b:c gdtr=9abcdef0:1234 idtr=87654321:fed
 SGDT [1010h]
  bytes 0f 01 05 10 10 00 00
@@ -116,11 +110,6 @@ SGDT [FFFFFFFCh], whose base passes the last offset
  w data 0 fffffffc 3 1234
  after pending=d:0
 ";
-
-#[test]
-fn table_registers_are_stored_whole(rt: HostRuntime) {
-    assert_eq!(rt; all_made(STORES), Ok(5));
-}
 
 /// The bytes of LLDT AX, and eight bytes behind them that are the descriptor 0008 of a GDT at 1000h: base 123456h, limit 27h and this
 /// access byte.
@@ -283,7 +272,7 @@ fn ldtr_is_loaded_by_its_rules_in_order(rt: HostRuntime) {
 }
 
 /// LLDT from a register and from memory.
-const LLDTS: &str = "\
+pub(crate) const LLDTS: &str = "\
 start ldtr=8:0:fffff:82:0 gdtr=1000:ffff
 a null selector, which is kept
  before eax=3
@@ -312,8 +301,3 @@ from a GDT that isn't aligned
  r+ gdt 2 100c 3 0
  after eip=1003 ldtr=8:123456:27:82:0
 ";
-
-#[test]
-fn ldtr_is_loaded_from_each_place(rt: HostRuntime) {
-    assert_eq!(rt; all_made(LLDTS), Ok(4));
-}

@@ -1,7 +1,6 @@
 //! Far JMP and CALL through a call gate, which is descriptor 48 and leads to descriptor 50 at 2000h: the rules of the gate and of its
 //! target, and the cycles of those that keep the stack.
-use super::transfers::{OUTER, at_level, refused, world};
-use m386_worked::texts::made_behind;
+use super::transfers::{at_level, refused, world};
 
 /// JMP to 4B:12345678, whose offset doesn't count.
 const JUMP: u64 = 0x4b_1234_5678_ea;
@@ -257,7 +256,7 @@ pub(super) fn gate(count: u8, target: u32) -> [(u32, u32); 4] {
 }
 
 /// Gates to code that runs at level 3. The count 5 of the gate doesn't matter.
-const SAME_LEVEL: &str = "\
+pub(crate) const SAME_LEVEL: &str = "\
 JMP
  bytes ea 78 56 34 12 4b 00 00
  memory 448 502000 ec05 ffff cffb00
@@ -296,13 +295,8 @@ CALL of conforming code
  after eip=2000 esp=7f8 cs=53:0:fffff:9f:c
 ";
 
-#[test]
-fn gates_to_the_same_level_keep_the_stack(rt: HostRuntime) {
-    assert_eq!(rt; made_behind(OUTER, SAME_LEVEL), Ok(3));
-}
-
 /// A gate to code that isn't marked as accessed.
-const MARKED: &str = "\
+pub(crate) const MARKED: &str = "\
 JMP
  bytes ea 78 56 34 12 4b 00 00
  memory 448 502000 ec00 ffff cffa00
@@ -315,8 +309,3 @@ JMP
  w+ gdtacc 0 454 2 fb00
  after eip=2000 cs=53:0:fffff:fa:c
 ";
-
-#[test]
-fn the_target_of_a_gate_is_marked(rt: HostRuntime) {
-    assert_eq!(rt; made_behind(OUTER, MARKED), Ok(1));
-}

@@ -3,11 +3,10 @@
 use super::call_gates::{CALL, gate};
 use super::fetch;
 use super::transfers::{
-    OUTER, at_level, cycle, entered, flat, high, low, on_stack, push, refused, steps_to, world,
+    at_level, cycle, entered, flat, high, low, on_stack, push, refused, steps_to, world,
 };
 use m386_base::ask::{Ask, Role};
 use m386_state::proc::Proc;
-use m386_worked::texts::made_behind;
 
 /// A new stack of level 0 that is refused: its name, the gate's high doubleword and its target's, SS0, the high doubleword of
 /// the flat descriptor 30, the cycles, the vector and the code.
@@ -98,7 +97,7 @@ fn new_stacks_are_refused_by_each_rule(rt: HostRuntime) {
 }
 
 /// A TSS that ends at or before the end of a stack, which is 4 + 8n + 5 for the level n.
-const TASKS: &str = "\
+pub(crate) const TASKS: &str = "\
 too small
  before tr=73:300:8:8b:0
  bytes 9a 78 56 34 12 4b 00 00
@@ -150,11 +149,6 @@ no task and not present
  after pending=b:50
 ";
 
-#[test]
-fn the_task_state_segment_holds_the_new_stack(rt: HostRuntime) {
-    assert_eq!(rt; made_behind(OUTER, TASKS), Ok(8));
-}
-
 /// The cycles of a CALL through a gate to level 0, up to what it pushes: its bytes, the gate, the target, and the new stack.
 fn before_pushes(count: u8) -> [Ask; 10] {
     [
@@ -182,7 +176,7 @@ fn inside(p: &Proc, esp: u32) -> Proc {
 }
 
 /// Gates with a count of 0 and 1.
-const COPIES: &str = "\
+pub(crate) const COPIES: &str = "\
 none
  bytes 9a 78 56 34 12 4b 00 00
  memory 448 502000 ec00 ffff cf9b00
@@ -224,11 +218,6 @@ one
 ";
 
 #[test]
-fn parameters_are_copied_the_farthest_first(rt: HostRuntime) {
-    assert_eq!(rt; made_behind(OUTER, COPIES), Ok(2));
-}
-
-#[test]
 fn up_to_31_parameters_are_copied(rt: HostRuntime) {
     let p = at_level(3);
     // They reach up to 87Bh.
@@ -254,7 +243,7 @@ fn up_to_31_parameters_are_copied(rt: HostRuntime) {
 }
 
 /// Stacks that are addressed by SP.
-const HALVES: &str = "\
+pub(crate) const HALVES: &str = "\
 # Its parameters come round at 64 KiB, and its ESP is pushed whole.
 the old stack
  before esp=5fffc ss=43:0:fffff:f3:8
@@ -290,13 +279,8 @@ the new stack
  after eip=2000 esp=105f0 cs=50:0:fffff:9b:c ss=10:0:fffff:93:8
 ";
 
-#[test]
-fn a_stack_may_be_addressed_by_sp(rt: HostRuntime) {
-    assert_eq!(rt; made_behind(OUTER, HALVES), Ok(2));
-}
-
 /// Pushes on a new stack of 64 KiB, and copies from an old one that ends at 803h.
-const TESTED: &str = "\
+pub(crate) const TESTED: &str = "\
 a push
  bytes 9a 78 56 34 12 4b 00 00
  memory 448 502000 ec00 ffff cf9b00
@@ -353,8 +337,3 @@ the last one
  makes 10
  after eip=2000 esp=5ec cs=50:0:fffff:9b:c ss=10:0:fffff:93:c
 ";
-
-#[test]
-fn each_push_and_each_copy_is_tested(rt: HostRuntime) {
-    assert_eq!(rt; made_behind(OUTER, TESTED), Ok(8));
-}

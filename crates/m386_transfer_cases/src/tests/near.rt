@@ -4,7 +4,6 @@ use super::{Case, at, bare, fetch, flagged, loaded, step_over_bytes, step_over_v
 use m386_base::desc::Desc;
 use m386_state::proc::Proc;
 use m386_state::segment::Seg;
-use m386_worked::texts::all_made;
 use std::process::Abort;
 
 /// The place of ECX.
@@ -139,7 +138,7 @@ fn counts_are_those_of_ecx(rt: HostRuntime) {
 }
 
 /// Jumps with targets of both widths.
-const WIDTHS: &str = "\
+pub(crate) const WIDTHS: &str = "\
 start cs=8:ffff0000:fffff:9b:c
 JMP of a byte
  before eip=11000
@@ -174,13 +173,8 @@ JMP BX
  after eip=b2b3
 ";
 
-#[test]
-fn targets_are_taken_by_their_width(rt: HostRuntime) {
-    assert_eq!(rt; all_made(WIDTHS), Ok(6));
-}
-
 /// Jumps to a target in a register or in memory.
-const MEMORY: &str = "\
+pub(crate) const MEMORY: &str = "\
 JMP [1013h], split over two groups
  bytes ff 25 13 10 00 00 00 00
  r fetch 0 1000 f 101325ff
@@ -208,13 +202,8 @@ JMP [1010h] past the limit, behind its read
  after pending=d:0
 ";
 
-#[test]
-fn targets_stand_in_memory(rt: HostRuntime) {
-    assert_eq!(rt; all_made(MEMORY), Ok(4));
-}
-
 /// Jumps at the limit of CS.
-const LIMITS: &str = "\
+pub(crate) const LIMITS: &str = "\
 start cs=8:0:1020:9b:4
 JMP to the last offset
  bytes eb 1e 00 00 00 00 00 00
@@ -252,8 +241,3 @@ JECXZ one past the limit
  r fetch 0 1000 f 1fe3
  after pending=d:0
 ";
-
-#[test]
-fn a_target_lies_inside_the_limit(rt: HostRuntime) {
-    assert_eq!(rt; all_made(LIMITS), Ok(8));
-}

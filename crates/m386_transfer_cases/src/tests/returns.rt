@@ -1,12 +1,11 @@
 //! Near calls and returns, and RETF: each rule of CS and of the outer SS, the pairs whose order a fault shows, the immediate, and
 //! the segments that an outer return makes null. The stack stands at 800h.
-use super::transfers::{OUTER, at_level, cycle, push, refused, world};
+use super::transfers::{at_level, cycle, push, refused, world};
 use super::{bare, fetch, in_mode};
 use m386_base::ask::{Ask, Cycle, Role};
 use m386_memory::fixed::FixedBus;
 use m386_state::proc::Mode;
 use m386_step::run::run;
-use m386_worked::texts::made_behind;
 
 /// RETF.
 const RETF: u64 = 0xcb;
@@ -194,7 +193,7 @@ fn far_returns_are_refused_by_each_rule(rt: HostRuntime) {
 }
 
 /// RETF to an outer level on a stack that ends amid what is popped.
-const TESTED: &str = "\
+pub(crate) const TESTED: &str = "\
 a pop
  before es=10:0:fffff:93:c cs=8:0:fffff:9b:c ss=10:0:802:93:4 ds=10:0:fffff:93:c fs=10:0:fffff:93:c gs=10:0:fffff:93:c
  bytes cb 00 00 00 00 00 00 00
@@ -221,13 +220,8 @@ a pop
  after pending=c:0
 ";
 
-#[test]
-fn each_pop_is_tested(rt: HostRuntime) {
-    assert_eq!(rt; made_behind(OUTER, TESTED), Ok(4));
-}
-
 /// RETF to level 3.
-const SAME_LEVEL: &str = "\
+pub(crate) const SAME_LEVEL: &str = "\
 RETF
  bytes cb 00 00 00 00 00 00 00
  memory 800 2000 3b
@@ -265,13 +259,8 @@ by SP
  after eip=2000 esp=50810
 ";
 
-#[test]
-fn a_far_return_to_the_same_level_releases_its_parameters(rt: HostRuntime) {
-    assert_eq!(rt; made_behind(OUTER, SAME_LEVEL), Ok(4));
-}
-
 /// RETF to an outer level.
-const OUTER_LEVEL: &str = "\
+pub(crate) const OUTER_LEVEL: &str = "\
 # ES conforms, DS has DPL 0, FS has DPL 3, and GS isn't usable.
 RETF 8
  before es=b:0:fffff:9f:c cs=8:0:fffff:9b:c ss=10:0:fffff:93:c ds=10:0:fffff:93:c gs=-2:0:0:0:0
@@ -304,13 +293,8 @@ RETF with 66h to level 2
  after eip=2000 esp=700 cs=2a:0:fffff:db:c ss=32:0:fffff:d3:c fs=-0:0:0:0:0
 ";
 
-#[test]
-fn a_far_return_to_an_outer_level_changes_all_segments(rt: HostRuntime) {
-    assert_eq!(rt; made_behind(OUTER, OUTER_LEVEL), Ok(3));
-}
-
 /// Near calls and returns.
-const NEAR: &str = "\
+pub(crate) const NEAR: &str = "\
 CALL
  bytes e8 05 00 00 00 00 00 00
  r fetch 0 1000 f 5e8
@@ -379,11 +363,6 @@ RET on an empty stack
  makes 1
  after pending=c:0
 ";
-
-#[test]
-fn near_calls_push_behind_the_test_of_their_target(rt: HostRuntime) {
-    assert_eq!(rt; made_behind(OUTER, NEAR), Ok(11));
-}
 
 #[test]
 fn a_call_comes_back(rt: HostRuntime) {

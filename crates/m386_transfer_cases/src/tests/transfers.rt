@@ -14,7 +14,7 @@ use m386_state::segment::{Seg, TableReg};
 use m386_step::alone::step_alone;
 use m386_worked::cases::put;
 pub(super) use m386_worked::cycles::{cycle, high, low};
-use m386_worked::texts::{made_behind, put_lines};
+use m386_worked::texts::put_lines;
 use std::process::Abort;
 
 /// A processor of level 3 in a task, on the outer stack. In memory code and data of the levels 0 to 3 with the selectors 08, 10, 18, 20 and on
@@ -254,7 +254,7 @@ fn direct_transfers_are_refused_by_each_rule(rt: HostRuntime) {
 }
 
 /// Direct transfers to code that isn't marked as accessed.
-const CYCLES: &str = "\
+pub(crate) const CYCLES: &str = "\
 JMP
  bytes ea 00 20 00 00 4b 00 00
  memory 448 ffff cffa00
@@ -289,13 +289,8 @@ CALL with 66h
  after eip=2000 esp=7fc cs=4b:0:fffff:fa:c
 ";
 
-#[test]
-fn direct_transfers_make_their_cycles(rt: HostRuntime) {
-    assert_eq!(rt; made_behind(OUTER, CYCLES), Ok(3));
-}
-
 /// A stack of 64 KiB with room for so many doublewords: CS is pushed, and EIP isn't.
-const PUSHES: &str = "\
+pub(crate) const PUSHES: &str = "\
 CALL
  before esp=0 ss=43:0:ffff:f3:4
  bytes 9a 00 20 00 00 4b 00 00
@@ -310,13 +305,8 @@ CALL
  after pending=c:0
 ";
 
-#[test]
-fn each_push_of_a_call_is_tested(rt: HostRuntime) {
-    assert_eq!(rt; made_behind(OUTER, PUSHES), Ok(2));
-}
-
 /// Conforming code of level 0, reached from level 2 with RPL 3: RPL doesn't count.
-const CONFORMING: &str = "\
+pub(crate) const CONFORMING: &str = "\
 JMP
  before es=32:0:fffff:d3:c cs=2a:0:fffff:db:c ss=32:0:fffff:d3:c ds=32:0:fffff:d3:c fs=32:0:fffff:d3:c gs=32:0:fffff:d3:c
  bytes ea 00 20 00 00 4b 00 00
@@ -328,13 +318,8 @@ JMP
  after eip=2000 cs=4a:0:fffff:9f:c
 ";
 
-#[test]
-fn conforming_code_runs_at_the_old_level(rt: HostRuntime) {
-    assert_eq!(rt; made_behind(OUTER, CONFORMING), Ok(1));
-}
-
 /// Far jumps through memory.
-const POINTERS: &str = "\
+pub(crate) const POINTERS: &str = "\
 # The offset 2000h at 502h over two groups, and the selector 3B behind it.
 JMP [502h]
  bytes ff 2d 02 05 00 00 00 00
@@ -370,8 +355,3 @@ JMP [502h], whose selector is past the limit
  makes 4
  after pending=d:0
 ";
-
-#[test]
-fn far_pointers_stand_in_memory(rt: HostRuntime) {
-    assert_eq!(rt; made_behind(OUTER, POINTERS), Ok(4));
-}
