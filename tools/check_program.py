@@ -279,6 +279,69 @@ def tss(base, access=0x89):
     return bytes([0x67, 0, *base.to_bytes(3, "little"), access, 0, base >> 24])
 
 
+def three_tasks(first, second=HALT, cpus=1, third=None, stack=0x10):
+    """An image of the tasks 18h, 20h and 28h, whose code stands at 4000h, 4100h and 4180h. Processor 0 starts in the first, and one more in the second, whose
+    SS is `stack`. The descriptor of the third may be another. IRET at 4200h is the handler of vector 20h."""
+    wide = lambda access: bytes.fromhex("ffff000000") + bytes([access]) + bytes.fromhex("cf00")
+    table = bytes(8) + wide(0x9A) + wide(0x92) + tss(0x3000) + tss(0x3080) + (third or tss(0x3100)) + wide(0xF2) + wide(0xFA)
+
+    def state(eip, esp, ss=0x10):
+        fields = {0x20: eip, 0x24: 2, 0x38: esp, 0x4C: 8, 0x50: ss, 0x54: 0x10}
+        return b"".join(fields.get(at, 0).to_bytes(4, "little") for at in range(0, 104, 4))
+
+    data = bytearray(image(table, cpus=cpus, memory=65536, gdt=(0x1000, 0x3F), idt=(0x2000, 0x107), tasks=(1 << cpus) - 1, more=[
+        (0x2100, bytes.fromhex("00420800008e0000")), (0x3000, state(0x4000, 0x5000)), (0x3080, state(0x4100, 0x6000, stack)), (0x3100, state(0x4180, 0x7000)),
+        (0x4000, first), (0x4100, second), (0x4180, HALT), (0x4200, bytes([0xCF])),
+    ]))
+    for cpu in range(cpus):
+        data[32 + 4 * cpu:36 + 4 * cpu] = (0x18 + 8 * cpu).to_bytes(4, "little")
+    return bytes(data)
+
+
+def words(line):
+    """The words of a processor's line by the names before them."""
+    return dict(zip(line[5:], line[6:]))
+
+
+def switches(checks):
+    """Each way into a task switch, and where it fails: what is read and written, in which task the fault is, and who holds what."""
+    jump, call = (lambda task: bytes([0xEA, 0, 0, 0, 0, task, 0])), (lambda task: bytes([0x9A, 0, 0, 0, 0, task, 0]))
+
+    def of(steps, data, order="round", seed=None):
+        lines = checks.call(["run", f"--order={order}", f"--steps={steps}", *([f"--seed={seed}"] if seed is not None else [])], data, 0).splitlines()
+        return lines, cycles(lines), [words(line) for line in ends(lines)]
+
+    def fault(what, processor, eip, tr, code):
+        at = {"eip": processor["eip"], "tr": processor["tr"], "pending": processor["pending"]}
+        checks.want(at == {"eip": eip, "tr": tr, "pending": code[:2]} and processor.get(code[:2], code[3:]) == code[3:], f"{what}: {at} {code}")
+
+    lines, made, p = of(2, three_tasks(jump(0x28), third=bytes([0x66]) + tss(0x3100)[1:]))
+    checks.want([" ".join(c[3:]) for c in made[-6:]] == [
+        "r . fetch 00 00004000 f 000000ea", "r . fetch 00 00004004 f 00002800", "r . gdt 00 00001028 f 31000066", "r + gdt 00 0000102c f 00008900",
+        "r . tss 00 00001028 f 31000066", "r + tss 00 0000102c f 00008900"] and lines[-1] == "clean", f"a limit below 103: {made[-6:]}")
+    fault("a limit below 103", p[0], "00004000", "0018", "0a 0028")
+    lines, made, p = of(2, three_tasks(jump(0x20), cpus=2))
+    checks.want(["r", "+", "tss", "00", "00001024", "f", "00008b00"] in [c[3:] for c in made if c[1] == "0"] and p[1]["tr"] == "0020", "a task that is busy elsewhere")
+    fault("a task that is busy elsewhere", p[0], "00004000", "0018", "0d 0020")
+    lines, made, p = of(2, three_tasks(jump(0x20), stack=0x30))
+    checks.want([" ".join(c[3:]) for c in made[-2:]] == ["r . gdt 00 00001030 f 0000ffff", "r + gdt 00 00001034 f 00cff200"], f"a stack of another level: {made[-2:]}")
+    fault("a stack of another level", p[0], "00004100", "0020", "0a 0030")
+    lines, made, p = of(2, three_tasks(call(0x18)))
+    own = made[[c[5] for c in made].index("fetch"):]
+    checks.want("w" not in [c[3] for c in own] and [c[5] for c in own[-2:]] == ["tss", "tss"], f"the task itself: no write behind its start: {own}")
+    fault("the task itself", p[0], "00004000", "0018", "0d 0018")
+    lines, made, p = of(5, three_tasks(call(0x20) + HALT, second=bytes.fromhex("cd20cf")))
+    both = [c[5] for c in made if c[7:] == ["00005ffc", "f", "00004002"]]
+    checks.want(both == ["push", "flags"] and (p[0]["eip"], p[0]["tr"], lines[-1]) == ("00004007", "0018", "clean"), f"a nested task and an interrupt gate: {both} {p}")
+    # Two processors want the third task, in any order: one claims it, and the other finds it busy.
+    for order, seed in [("round", None), *(("seed", seed) for seed in range(1, 9))]:
+        lines, made, p = of(2, three_tasks(jump(0x28), second=jump(0x28), cpus=2), order, seed)
+        came = [cpu for cpu in (0, 1) if p[cpu]["tr"] == "0028"]
+        checks.want(len(came) == 1 and len([c for c in made if c[5] == "claimjmp"]) == 1 and lines[-1] == "clean", f"one claimant by {order} {seed}: {p}")
+        for cpu in {0, 1} - set(came):
+            fault(f"the other claimant by {order} {seed}", p[cpu], ("00004000", "00004100")[cpu], ("0018", "0020")[cpu], "0d 0028")
+
+
 def verdicts(checks):
     """The last line, by the limit of the GDT and where it lies, by its tasks, and by what the program does."""
     for gdt, idt, line in [((0, 0), (0, 0), "clean"), ((0, 14), (0, 0xFFFF), "clean"), ((0, 15), (0, 0), "clean"), ((0x3FF1, 14), (0, 0), "clean"),
@@ -302,7 +365,7 @@ def verdicts(checks):
 
 def main():
     checks = Checks(sys.argv[1])
-    for part in (statuses, reports, limits, causes, orders, first_drawn, ample, plans, verdicts):
+    for part in (statuses, reports, limits, causes, orders, first_drawn, ample, plans, switches, verdicts):
         part(checks)
     print(f"{sys.argv[1]}: {checks.made} checks of the program, {checks.wrong} wrong")
     return 1 if checks.wrong else 0
