@@ -23,19 +23,20 @@ def below(crates, known):
     return found
 
 
-def built(folder, name, source, uses):
-    """The path of a program NAME, proved and built in the folder from the text of its main.rt; `uses` names its crates."""
+def built(folder, name, source, uses, proofs=()):
+    """The path of a program NAME, proved and built in the folder from the text of its main.rt; `uses` names its crates, and `proofs` are
+    the paths in its proofs/, with their texts."""
     known = dependencies()
     wanted = below(uses, known)
     for crate in wanted:
         for part in ("src", "specs", "proofs"):
             if os.path.isdir(f"{HERE}/crates/{crate}/{part}"):
                 shutil.copytree(f"{HERE}/crates/{crate}/{part}", f"{folder}/crates/{crate}/{part}")
-    for part in ("src", "specs"):
-        os.makedirs(f"{folder}/crates/{name}/{part}")
-    with open(f"{folder}/crates/{name}/src/main.rt", "w") as text:
-        text.write(source)
-    open(f"{folder}/crates/{name}/specs/Lib.antt", "w").close()
+    for path, content in [("src/main.rt", source), ("specs/Lib.antt", ""), *((f"proofs/{path}", content) for path, content in dict(proofs).items())]:
+        os.makedirs(os.path.dirname(f"{folder}/crates/{name}/{path}"), exist_ok=True)
+        with open(f"{folder}/crates/{name}/{path}", "w", encoding="utf-8") as text:
+            text.write(content)
+    shutil.copy(f"{HERE}/HANDLES", folder)
     with open(f"{folder}/crates.txt", "w") as text:
         text.writelines(f"{c}: {' '.join(known[c])}\n" for c in wanted)
         text.write(f"{name}: {' '.join(uses)}\n")
