@@ -1,4 +1,6 @@
+pub mod Attempts
 pub mod Beginning
+pub mod Cuts
 pub mod Foreseeing
 pub mod Fronts
 pub mod Groups

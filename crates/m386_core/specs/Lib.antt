@@ -5,4 +5,5 @@ pub mod Order
 pub mod Place
 pub mod Plans
 pub mod Running
+pub mod Switches
 pub mod Unfinished

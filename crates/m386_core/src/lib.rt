@@ -7,6 +7,7 @@ pub mod machine;
 pub mod order;
 mod plans;
 mod running;
+pub mod switches;
 #[cfg(test)]
 mod tests;
 pub mod turn;
