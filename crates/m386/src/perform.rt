@@ -1,11 +1,10 @@
 //! The work of a call: from its words and its input to its output.
-ghost use Rattle.std.specs.Prelude.{◌≡◌, ◌<◌, ◌≤◌, ℕ, List, All, IfOk, length};
+ghost use Rattle.std.specs.Prelude.{◌≡◌, ◌<◌, ◌≤◌, ℕ, List, None, All, IfOk, length};
 ghost use Rattle.m386_image.specs.Format.{IsValid};
 ghost use Rattle.m386_book.specs.Verdict.{IsFirstFailure};
-ghost use Rattle.m386_book.specs.declared.verdict.Verdict.{Verdict as VerdictData};
-ghost use Rattle.m386_trace.specs.Report.{report_text};
-ghost use Rattle.m386.specs.Top.{IsAnswer, IsAnswerOf, IsAnswerTo, OutTakes, at_edges, at_out, count_of, excess};
+ghost use Rattle.m386.specs.Top.{IsAnswer, IsAnswerOf, IsAnswerTo, IsRunOf, at_edges, at_out, count_of, excess, refusal};
 ghost use Rattle.m386.specs.Words.{texts, IsAsked};
+ghost use Rattle.m386.specs.declared.words.Asked.{Asked as AskedData};
 
 use crate::run::run_image;
 use crate::status::{Status, UsageKind};
@@ -62,14 +61,13 @@ fn verdict_on(alloc: Global, image: &Image, ended: &Ended<Proc>) -> Result<Verdi
     clean(alloc, image, ended.log.cycles())
 }
 
-/// Writes the report on a run, whose verdict this is.
+/// Writes the report on a run, whose verdict this is. It answers whatever asks for that run.
 fn write_run<K: Sink>(image: &Image, ended: &Ended<Proc>, verdict: &Verdict, out: &mut K) -> Status
     requires cpus { All (λ c. c.cpu < 8) ended.now.log.cycles }
     requires few { length ended.now.procs ≤ 8 }
     requires first { IsFirstFailure image.now ended.now.log.cycles verdict.now }
-    ensures { (first : VerdictData) × IsFirstFailure image.now ended.now.log.cycles first
-        × OutTakes (at_out (K.held out.old) (K.faults out.old)) (at_out (K.held out.new) (K.faults out.new))
-        (report_text image.now ended.now.log.cycles ended.now.procs first) result }
+    ensures { (asked : AskedData) → refusal image.now asked ≡ None → IsRunOf image.now asked ended.now.log.cycles ended.now.procs
+        → IsAnswerOf image.now asked (at_out (K.held out.old) (K.faults out.old)) (at_out (K.held out.new) (K.faults out.new)) result }
 {
     match report(image, &ended.log, ended.procs.as_slice(), verdict, out) {
         Ok(()) => Status::Done,
