@@ -342,6 +342,61 @@ def switches(checks):
             fault(f"the other claimant by {order} {seed}", p[cpu], ("00004000", "00004100")[cpu], ("0018", "0020")[cpu], "0d 0028")
 
 
+def task(eip, esp=0x3000, cs=8, ss=0x10):
+    """The 104 bytes of a TSS whose task begins at an offset, with DS and ES as SS."""
+    fields = {0x20: eip, 0x24: 2, 0x38: esp, 0x48: ss, 0x4C: cs, 0x50: ss, 0x54: ss}
+    return b"".join(fields.get(at, 0).to_bytes(4, "little") for at in range(0, 104, 4))
+
+
+# CALL 0020h:0 and HLT at 1000h, IRET at 1100h; code and data of 4 GiB at 0008h and 0010h, tasks at 0018h and 0020h. Processor 0 starts in the first.
+CALLER = bytes.fromhex("9a000000002000f4")
+TASKS = dict(gdt=(0x1800, 0x27), tasks=1, more=[
+    (0x1100, bytes([0xCF])), (0x1808, bytes.fromhex("ffff0000009bcf00ffff00000093cf00") + tss(0x1900) + tss(0x1980)), (0x1900, task(0x1000)), (0x1980, task(0x1100)),
+])
+ENTERED = ["load"] * 18 + ["gdt"] * 8  # fields 8 to 25, and the descriptors of CS, SS, DS and ES, which are marked accessed
+
+
+def starting(word, more=TASKS["more"], **others):
+    """The image of TASKS, whose processor starts by this start word."""
+    data = bytearray(image(CALLER, **{**TASKS, "more": more, **others}))
+    data[32:36] = word.to_bytes(4, "little")
+    return bytes(data)
+
+
+def starts(checks):
+    """A processor that starts in a task, calls another and comes back; and starts that fail."""
+    with open(os.path.join(os.path.dirname(os.path.abspath(__file__)), "..", "examples", "tasks.img"), "rb") as example:
+        data = example.read()
+    checks.want(data == starting(0x18), "examples/tasks.img is what its text says")
+    lines = checks.run(["--steps=4"], data)
+    made = cycles(lines)
+    wanted = ["tss", "tss", "claimstart", *ENTERED, "fetch", "fetch", "gdt", "gdt", "tss", "tss", "claimcall", *["save"] * 16, "link", *ENTERED]
+    wanted += ["fetch", "back", "tss", "tss", *["save"] * 16, "relret", "relret", *ENTERED, "fetch"]
+    checks.want([c[5] for c in made] == wanted, f"a start, a call and a return: {[c[5] for c in made]}")
+    by = lambda role, part="00": [(c[3], c[7], c[9]) for c in made if c[5] == role and c[6] == part]
+    checks.want(by("claimstart") == [("w", "0000181c", "00008b00")], "the start claims its task")
+    checks.want(by("claimcall") == [("w", "00001824", "00008b00")], "CALL claims the other")
+    checks.want(by("save", "08") == [("w", "00001920", "00001007"), ("w", "000019a0", "00001101")], "EIP is saved behind the instruction")
+    checks.want(by("save", "09") == [("w", "00001924", "00000002"), ("w", "000019a4", "00000002")], "IRET saves NT clear")
+    checks.want(by("link") == [("w", "00001980", "00000018")] and by("back") == [("r", "00001980", "00000018")], "the link leads back")
+    checks.want(by("relret") == [("r", "00001824", "00008b00"), ("w", "00001824", "00008900")], "IRET frees its task")
+    checks.want(by("load", "08") == [("r", "00001920", "00001000"), ("r", "000019a0", "00001100"), ("r", "00001920", "00001007")], "EIP is loaded")
+    checks.want(ends(lines)[0][2:8] == ["halted", "steps", "4", "eip", "00001008", "efl"] and lines[-1] == "clean", f"the end of both tasks: {lines[-2:]}")
+    checks.want(checks.run(["--steps=4"], starting(0xFFFF0018)) == lines, "the high half of a selector is ignored")
+    # A start whose row of 2 to 7 fails ends in shutdown, behind what it read; one whose row of 8 to 19 fails has its fault pending in the task.
+    busy = [(at, data.replace(tss(0x1900), tss(0x1900, 0x8B))) for at, data in TASKS["more"]]
+    absent = [(at, data.replace(tss(0x1900), tss(0x1900, 0x09))) for at, data in TASKS["more"]]
+    short = [(at, data.replace(tss(0x1900), b"\x66" + tss(0x1900)[1:])) for at, data in TASKS["more"]]
+    for what, data, roles in [("null", starting(0), []), ("in the LDT", starting(0x1C), []), ("outside the GDT", starting(0x28), []), ("code", starting(8), ["tss", "tss"]),
+                              ("busy", starting(0x18, busy), ["tss", "tss"]), ("absent", starting(0x18, absent), ["tss", "tss"]), ("a byte short", starting(0x18, short), ["tss", "tss"])]:
+        lines = checks.run(["--steps=4"], data)
+        checks.want([c[5] for c in cycles(lines)] == roles and ends(lines)[0][2:5] == ["shutdown", "steps", "1"], f"a start in a task that is {what}: {lines[2:]}")
+    for what, tss_bytes, more, code in [("SS of another level", task(0x1000, ss=0x11), ["gdt"] * 4, ["0a", "0010"]), ("CS null", task(0x1000, cs=0), [], ["0a", "0000"])]:
+        lines = checks.run(["--steps=1"], starting(0x18, [(at, tss_bytes if at == 0x1900 else data) for at, data in TASKS["more"]]))
+        checks.want([c[5] for c in cycles(lines)] == ["tss", "tss", "claimstart", *["load"] * 18, *more], f"a start with {what}: {[c[5] for c in cycles(lines)]}")
+        checks.want(ends(lines)[0][-2:] == code and ends(lines)[0][2] == "running", f"a start with {what}: {ends(lines)}")
+
+
 def verdicts(checks):
     """The last line, by the limit of the GDT and where it lies, by its tasks, and by what the program does."""
     for gdt, idt, line in [((0, 0), (0, 0), "clean"), ((0, 14), (0, 0xFFFF), "clean"), ((0, 15), (0, 0), "clean"), ((0x3FF1, 14), (0, 0), "clean"),
@@ -365,7 +420,7 @@ def verdicts(checks):
 
 def main():
     checks = Checks(sys.argv[1])
-    for part in (statuses, reports, limits, causes, orders, first_drawn, ample, plans, switches, verdicts):
+    for part in (statuses, reports, limits, causes, orders, first_drawn, ample, plans, switches, starts, verdicts):
         part(checks)
     print(f"{sys.argv[1]}: {checks.made} checks of the program, {checks.wrong} wrong")
     return 1 if checks.wrong else 0
