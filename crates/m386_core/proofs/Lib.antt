@@ -8,8 +8,11 @@ pub mod Growing
 pub mod InOrders
 pub mod Keeping
 pub mod Lengths
+pub mod NextCycles
+pub mod OneRun
 pub mod Orders
 pub mod Places
 pub mod Runs
 pub mod Turning
 pub mod UnfinishedSteps
+pub mod Values

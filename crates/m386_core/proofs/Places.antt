@@ -72,7 +72,7 @@ pub record SameWhole (mid mid2 : Proc) (rest rest2 : List Ask) : Type 0 where
   pub same_after : mid2 ≡ mid
   pub same_rest : rest2 ≡ rest
 
-whole_same : (j : Judgement Proc) (mid mid2 : Proc) (rest rest2 : List Ask) → j ≡ Whole mid rest → j ≡ Whole mid2 rest2 → SameWhole mid mid2 rest rest2
+pub whole_same : (j : Judgement Proc) (mid mid2 : Proc) (rest rest2 : List Ask) → j ≡ Whole mid rest → j ≡ Whole mid2 rest2 → SameWhole mid mid2 rest rest2
 whole_same j mid mid2 rest rest2 e f = record { same_after = cc; same_rest = cc }
 
 -- whole steps of the same cycles end before the state of the unfinished step is left, and not in shutdown

@@ -1,7 +1,10 @@
-//! What is in an order, and what isn't.
+//! What is in an order, and what isn't; and that in one order there is one run.
 ghost use Rattle.std.specs.Prelude.{◌≡◌, ◌↔◌, ◌<◌, ◌∷◌, ◌++◌, [], ℕ, List};
 ghost use Rattle.m386_base.specs.declared.ask.Cycle.{Cycle as CycleRecord};
 ghost use Rattle.m386_image.specs.declared.image.Image.{Image as ImageRecord};
+ghost use Rattle.m386_memory.specs.declared.ended.ProcEnd.{ProcEnd};
+ghost use Rattle.m386_state.specs.declared.proc.Proc.{Proc as ProcRecord};
+ghost use Rattle.m386_step.specs.Run.{Run};
 ghost use Rattle.m386_core.specs.declared.order.Order.{Order as OrderData};
 ghost use Rattle.m386_core.specs.declared.order.Order.TheVariants as orders;
 ghost use Rattle.m386_core.specs.Order.{InOrder};
@@ -21,4 +24,13 @@ pub fn order_laws()
         → InOrder I 8 n (orders.Seed 0) (x ∷ []) ↔ (x.cpu ≡ 7) }
     ensures below { (I : ImageRecord) (c n : ℕ) (G : List CycleRecord) (x : CycleRecord) → 0 < c
         → InOrder I c n orders.Round (G ++ x ∷ []) → x.cpu < c }
+{}
+
+/// In one order an image has one run: two runs of as many processors with as many steps each, whose cycles are in the same
+/// order, have one history, and end in one way. The function does nothing; its clauses are the laws.
+pub fn one_run_for_one_order()
+    ensures history { (I : ImageRecord) (c n : ℕ) (order : OrderData) (H G : List CycleRecord) (D E : List (ProcEnd ProcRecord))
+        → InOrder I c n order H → Run I c n H D → InOrder I c n order G → Run I c n G E → H ≡ G }
+    ensures ends { (I : ImageRecord) (c n : ℕ) (order : OrderData) (H G : List CycleRecord) (D E : List (ProcEnd ProcRecord))
+        → InOrder I c n order H → Run I c n H D → InOrder I c n order G → Run I c n G E → D ≡ E }
 {}
