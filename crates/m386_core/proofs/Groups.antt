@@ -10,8 +10,8 @@ use Rattle.m386_image.specs.declared.image.Image.{Image}
 use Rattle.m386_memory.specs.History.{cycles_of}
 use Rattle.m386_memory.proofs.Histories.{cycles_of-other, same-answered}
 use Rattle.m386_step.specs.Run.{start_of, plan_of}
-use Rattle.m386_core.specs.declared.turn.Turn.{Turn}
-use Rattle.m386_core.specs.declared.turn.Turn.TheVariants as turns
+use Rattle.m386_turns.specs.declared.turns.Turn.{Turn}
+use Rattle.m386_turns.specs.declared.turns.Turn.TheVariants as turns
 use Rattle.m386_core.specs.Machine.{MachineView, IsMachine, SameMachine, PassesOver, HasAmidGroup, MakesCycle, MakesGroup}
 use Rattle.m386_core.specs.Place.{Awaits, HasFinished}
 use Rattle.m386_core.proofs.Lengths.{front_length}

@@ -1,6 +1,7 @@
 pub mod Attempts
 pub mod Beginning
 pub mod Cuts
+pub mod Counting
 pub mod Foreseeing
 pub mod Fronts
 pub mod Groups

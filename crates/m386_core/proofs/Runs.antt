@@ -12,8 +12,8 @@ use Rattle.m386_core.proofs.Groups.{awaits_not_finished}
 use Rattle.std.proofs.Math.Nat.{mod-eq_of_lt}
 use Rattle.std.proofs.lemmas.Bool.{lt-ltb, le-ltb}
 use Rattle.std.proofs.lemmas.List.{at_drop_more, drop_all}
-use Rattle.m386_core.specs.declared.turn.Turn.{Turn}
-use Rattle.m386_core.specs.declared.turn.Turn.TheVariants as turns
+use Rattle.m386_turns.specs.declared.turns.Turn.{Turn}
+use Rattle.m386_turns.specs.declared.turns.Turn.TheVariants as turns
 use Rattle.m386_core.specs.declared.order.Order.{Order}
 use Rattle.m386_core.specs.Machine.{MachineView, IsPlaced, IsMachine, PassesOver, MakesCycle, GoesOn}
 use Rattle.m386_core.specs.Order.{Naming, beginning, Turns, Listed, Drawn, listed, passed, followed, draw_of}

@@ -1,8 +1,8 @@
 -- A turn of an order: processors are passed over, and then one makes a cycle.
 use Rattle.std.proofs.Common.{◌≡◌, ℕ, ◌+◌, ◌%◌, ◌<◌, refl, sym, ap, subst, ◌∙◌, add-zero, add_assoc, Result, Ok, Err}
 use Rattle.std.specs.Result.{IsErr, MatchResult}
-use Rattle.m386_core.specs.declared.turn.Turn.{Turn}
-use Rattle.m386_core.specs.declared.turn.Turn.TheVariants as turns
+use Rattle.m386_turns.specs.declared.turns.Turn.{Turn}
+use Rattle.m386_turns.specs.declared.turns.Turn.TheVariants as turns
 use Rattle.m386_core.specs.declared.order.Order.{Order}
 use Rattle.m386_core.specs.Machine.{MachineView, PassesOver, MakesCycle}
 use Rattle.m386_core.specs.Order.{Naming, named, passed, followed}

@@ -1,4 +1,5 @@
 pub mod Ahead
+pub mod Counting
 pub mod Kept
 pub mod Machine
 pub mod Order

@@ -2,6 +2,7 @@
 #![tactic(auto)]
 
 mod ahead;
+pub mod counted;
 pub mod laws;
 pub mod machine;
 pub mod order;
@@ -10,5 +11,4 @@ mod running;
 pub mod switches;
 #[cfg(test)]
 mod tests;
-pub mod turn;
 mod unfinished;

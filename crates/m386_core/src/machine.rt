@@ -1,14 +1,13 @@
 //! The machine: processors on one memory, one cycle at a time.
-ghost use Rattle.std.specs.Prelude.{◌≡◌, ◌≢◌, ◌↔◌, ◌⊎◌, ◌<◌, ◌≤◌, [], Result, Ok, Err, IfOk, OnErr, ℕ, Some, None};
+ghost use Rattle.std.specs.Prelude.{◌≡◌, ◌≢◌, ◌↔◌, ◌⊎◌, ◌<◌, ◌≤◌, [], Result, Ok, Err, IfOk, OnErr, ℕ, Some, None, true, length};
 ghost use Rattle.std.specs.Option.{ForSome};
 ghost use Rattle.m386_image.specs.Format.{IsValid};
 ghost use Rattle.m386_core.specs.Kept.{is_another};
 ghost use Rattle.m386_core.specs.Machine.{IsMachine, MakesCycle, MakesGroup, GoesOn, PassesOver, HasAmidGroup};
 ghost use Rattle.m386_core.specs.Place.{HasFinished};
-ghost use Rattle.m386_core.specs.declared.turn.Turn.TheVariants as turns;
+ghost use Rattle.m386_turns.specs.declared.turns.Turn.TheVariants as turns;
 
 use crate::plans::PlanLeft;
-use crate::turn::Turn;
 use crate::unfinished::Unfinished;
 use m386_base::fault::NoMemory;
 use m386_base::list::List;
@@ -17,6 +16,7 @@ use m386_memory::ended::{Ended, ProcEnd};
 use m386_memory::history::Record;
 use m386_state::proc::Proc;
 use m386_step::begin::{first_store, start};
+use m386_turns::turns::Turn;
 use std::alloc::Global;
 use std::marker::Model;
 
@@ -202,6 +202,22 @@ impl<'a> Machine<'a> {
             }
         }
         None
+    }
+
+    /// Whether a processor has finished.
+    pub fn has_finished(&self, cpu: u8) -> bool
+        requires { cpu < self.now.cpus }
+        ensures { (result ≡ true) ↔ HasFinished self.now.image self.now.budget self.now.log.cycles cpu }
+    {
+        self.unfinished[cpu as usize].next.is_none()
+    }
+
+    /// How many cycles were made.
+    pub fn cycles(&self) -> u32
+        ensures count { result ≡ length self.now.log.cycles }
+        ensures kept { IsMachine self.now }
+    {
+        self.log.cycles().len() as u32
     }
 
     /// How the run stands: the record of the cycles, and for each processor the state after its whole steps and how many

@@ -8,8 +8,8 @@ ghost use Rattle.m386_core.specs.Running.{OrderAt, Rises, gap, IsOver};
 
 use crate::machine::Machine;
 use crate::order::Order;
-use crate::turn::Turn;
 use m386_base::fault::NoMemory;
+use m386_turns::turns::Turn;
 
 /// The next number drawn from a seed.
 #[tactic(auto, unfolding(crate::specs::Order::draw_of))]

@@ -5,7 +5,6 @@ ghost use Rattle.m386_image.specs.Format.{IsValid};
 use crate::machine::Machine;
 use crate::order::Order;
 use crate::plans::PlanLeft;
-use crate::turn::Turn;
 use crate::unfinished::Unfinished;
 use m386_base::ask::{Ask, Cycle, Role, Space};
 use m386_base::fault::NoMemory;
@@ -17,6 +16,7 @@ use m386_memory::ended::ProcEnd;
 use m386_memory::store::Store;
 use m386_state::proc::{Mode, Proc, start_bare};
 use m386_state::segment::TableReg;
+use m386_turns::turns::Turn;
 use std::alloc::Global;
 use std::test::Fail;
 

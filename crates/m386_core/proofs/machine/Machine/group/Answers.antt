@@ -1,5 +1,5 @@
 use Rattle.std.proofs.Common.{rules, ◌≡◌, ◌≢◌, ℕ, ◌∙◌, sym, Ok, Some, ap, subst}
-use Rattle.m386_core.specs.declared.turn.Turn.TheVariants as turns
+use Rattle.m386_turns.specs.declared.turns.Turn.TheVariants as turns
 use Rattle.m386_core.specs.Machine.{HasAmidGroup}
 use Rattle.m386_core.proofs.Groups.{group_one, group_more, amid_not_passed, room_shrinks, turn_made, made_not_passed}
 use Rattle.m386_core.proofs.machine.Machine.group.Goals as goal

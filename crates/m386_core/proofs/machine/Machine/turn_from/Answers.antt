@@ -1,5 +1,5 @@
 use Rattle.std.proofs.Common.{rules, ◌≡◌, ◌≢◌, ◌<◌, ℕ, ◌∙◌, sym, ap, subst, Ok}
-use Rattle.m386_core.specs.declared.turn.Turn.TheVariants as turns
+use Rattle.m386_turns.specs.declared.turns.Turn.TheVariants as turns
 use Rattle.m386_core.specs.Machine.{MachineView, MakesCycle, PassesOver}
 use Rattle.m386_core.specs.Running.{gap}
 use Rattle.m386_core.proofs.Groups.{turn_made, made_not_passed}
