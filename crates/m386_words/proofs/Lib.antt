@@ -1,0 +1,5 @@
+pub mod Feeds
+pub mod Numerals
+pub mod Pairs
+pub mod Parts
+pub mod Tokens
