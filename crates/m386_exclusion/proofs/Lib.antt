@@ -1,0 +1,16 @@
+pub mod After
+pub mod Bytes
+pub mod Changed
+pub mod Counts
+pub mod Exclusion
+pub mod Frames
+pub mod Histories
+pub mod Invariant
+pub mod Judged
+pub mod Keepers
+pub mod Kept
+pub mod Moves
+pub mod Order
+pub mod Places
+pub mod Runs
+pub mod Table

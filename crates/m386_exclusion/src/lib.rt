@@ -1,0 +1,4 @@
+//! No two processors hold one task.
+#![tactic(auto)]
+
+pub mod laws;
