@@ -1,12 +1,9 @@
 -- Memory, the book and the stages after one more cycle.
-use Rattle.std.proofs.Common.{arith, ◌≡◌, ◌≢◌, ℕ, zero, suc, ◌+◌, ◌-◌, ◌*◌, ◌/◌, ◌%◌, ◌^◌, ◌<◌, ◌≤◌, ◌==◌, ◌∙◌, ◌⊎◌, inl, inr, refl, sym, ap, subst, List, [], ◌∷◌, ◌++◌, Bool, true, false, bit_or, bit_and, ◌&&◌, Option, Some, None, nat_le, eq-eqb, if◌then◌else◌, eqb}
-use Rattle.std.proofs.lemmas.Bool.Decides.{nat_tests}
-use Rattle.std.specs.Prelude.{unwrap_or}
+use Rattle.std.proofs.Common.{arith, ◌≡◌, ◌≢◌, ℕ, ◌+◌, ◌*◌, ◌/◌, ◌%◌, ◌^◌, ◌<◌, ◌≤◌, ◌==◌, ◌∙◌, inl, inr, refl, sym, ap, subst, List, [], ◌∷◌, ◌++◌, Bool, true, false, bit_or, bit_and, ◌&&◌, Option, Some, None, if◌then◌else◌, eqb}
 use Rattle.m386_base.specs.declared.ask.Ask.{Ask}
 use Rattle.m386_base.specs.declared.ask.Cycle.{Cycle}
 use Rattle.m386_base.specs.declared.ask.Role.{Role}
 use Rattle.m386_base.specs.declared.ask.Role.TheVariants as roles
-use Rattle.m386_base.specs.declared.ask.Space.{Space}
 use Rattle.m386_base.specs.declared.ask.Space.TheVariants as spaces
 use Rattle.m386_base.proofs.Finite.{all_below, each_below}
 use Rattle.m386_base.specs.Bytes.{bytes_of, byte_of, byte_at_place, Has, heard}

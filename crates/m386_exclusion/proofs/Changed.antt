@@ -1,12 +1,12 @@
 -- Who holds and who waits, and the busy bits, after each kind of change.
-use Rattle.std.proofs.Common.{◌≡◌, ◌≢◌, ℕ, zero, suc, ◌+◌, ◌*◌, ◌/◌, ◌%◌, ◌<◌, ◌≤◌, ◌==◌, Bool, true, false, List, [], ◌∷◌, ◌++◌, Option, Some, None, if◌then◌else◌, refl, sym, ap, ◌∙◌, subst, arith, ◌⊎◌, inl, inr}
-use Rattle.m386_book.specs.Book.{put, without_by, without_of, added, waiter, claimed, released, returned, linked, Book}
+use Rattle.std.proofs.Common.{◌≡◌, ◌≢◌, ℕ, ◌+◌, ◌<◌, ◌≤◌, Bool, Some, refl, sym, ap, ◌∙◌, subst, arith, ◌⊎◌, inl, inr}
+use Rattle.m386_book.specs.Book.{without_by, without_of, waiter, claimed, released, returned, linked, Book}
 use Rattle.m386_exclusion.proofs.Counts.{test, test-true, test-false, holders-put, entries-waits, waits-without_by, waits-without_of, waits-none, waits-added, waiter-is, waits-return}
 use Rattle.m386_exclusion.proofs.Places.{flag-apart, tss-flag, area-table}
 use Rattle.m386_exclusion.specs.Change.{But, Change, Silent, Saved, Spoilt, Claim, Link, LinkOn, Release, Return}
 use Rattle.m386_exclusion.specs.Invariant.{entries, bys, Gdt}
 use Rattle.m386_exclusion.specs.Table.{IsTable}
-use Rattle.m386_exclusion.specs.World.{Setting, World, IsTask, IsBusy, mem, flag, book, is, holders, waits, stands, IsTidy, gdt_reg}
+use Rattle.m386_exclusion.specs.World.{Setting, World, IsTask, IsBusy, mem, flag, book, is, stands, IsTidy, gdt_reg}
 
 none-or-some : (k : ℕ) → (k ≡ 0) ⊎ (1 ≤ k)
 none-or-some k = grind arith

@@ -1,17 +1,12 @@
 -- Exclusion over whole histories.
-use Rattle.std.proofs.Common.{arith, ◌≡◌, ◌≢◌, ℕ, ◌+◌, ◌<◌, ◌≤◌, ◌∙◌, ◌⊎◌, inl, inr, refl, sym, ap, subst, Bool, true, List, Some}
-use Rattle.m386_base.specs.declared.ask.Cycle.{Cycle}
-use Rattle.m386_base.specs.Phrase.{Phrase}
+use Rattle.std.proofs.Common.{arith, ℕ, ◌≤◌, ◌∙◌, inl, inr, ap, subst}
 use Rattle.m386_book.specs.Book.{Book, book_after}
-use Rattle.m386_book.specs.Verdict.{AreClean, NoneStatic}
-use Rattle.m386_image.specs.Format.{IsValid}
-use Rattle.m386_state.specs.declared.proc.Proc.{Proc}
-use Rattle.m386_stages.specs.Stages.{Stage, task_of}
-use Rattle.m386_exclusion.specs.Exclusion.{Exclusive, IsHeld, IsWaiting}
-use Rattle.m386_exclusion.specs.Held.{holds, number_of}
-use Rattle.m386_exclusion.specs.Histories.{Place, Rest, BeginsAs, IsStart, IsWalked, IsExcluded, StepLaw, Settles, Settled, Exclusion, ExclusionOfFronts}
+use Rattle.m386_stages.specs.Stages.{Stage}
+use Rattle.m386_exclusion.specs.Exclusion.{Exclusive, IsHeld}
+use Rattle.m386_exclusion.specs.Held.{holds}
+use Rattle.m386_exclusion.specs.Histories.{Settles, Exclusion, ExclusionOfFronts}
 use Rattle.m386_exclusion.specs.Invariant.{Gdt}
-use Rattle.m386_exclusion.specs.World.{Setting, World, holders, waits, stands}
+use Rattle.m386_exclusion.specs.World.{Setting, World, holders}
 use Rattle.m386_exclusion.proofs.Counts.{test, holders-one, holders-two}
 use Rattle.m386_exclusion.proofs.Histories.{settled}
 use Rattle.m386_exclusion.proofs.Order.{place_of, walked_below, walked_placed}

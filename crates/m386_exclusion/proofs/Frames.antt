@@ -1,14 +1,14 @@
 -- What a cycle of one processor leaves to the others.
-use Rattle.std.proofs.Common.{◌≡◌, ◌≢◌, ℕ, zero, suc, ◌+◌, ◌*◌, ◌/◌, ◌%◌, ◌<◌, ◌≤◌, ◌==◌, Bool, true, false, List, [], ◌∷◌, ◌++◌, Option, Some, None, if◌then◌else◌, refl, sym, ap, ◌∙◌, subst, arith, ◌⊎◌, inl, inr}
+use Rattle.std.proofs.Common.{◌≡◌, ◌≢◌, ℕ, ◌/◌, ◌%◌, ◌<◌, ◌≤◌, Bool, true, false, Option, Some, None, refl, sym, ap, ◌∙◌, subst, arith, inl, inr}
 use Rattle.m386_stages.specs.Stages.{Phase, Free, Turned, Linking, Called, Jumped, Loaded, Backing, Returned, Ready, Stage, nt_set}
-use Rattle.m386_book.specs.Book.{put, set, without_by, without_of, added, waiter, claimed, released, returned, linked, IsLive}
+use Rattle.m386_book.specs.Book.{set, without_by, without_of, waiter, claimed, released, returned, linked, IsLive}
 use Rattle.m386_exclusion.proofs.Counts.{test, test-true, test-false, put-there, holders-one, holders-two, entries-waits, entries-two, entries-without_by, entries-without_of, entries-added}
 use Rattle.m386_exclusion.proofs.Places.{tss-flag, tss-part, area-out}
 use Rattle.m386_exclusion.specs.Change.{Others, Change, Silent, Saved, Spoilt, Claim, Link, LinkOn, Release, Return}
 use Rattle.m386_exclusion.specs.Held.{holds, number_of}
 use Rattle.m386_exclusion.specs.Invariant.{entries, num, Owes, FlagsOk, Lives, Good, Gdt}
 use Rattle.m386_exclusion.specs.Table.{HasRead, AreRight}
-use Rattle.m386_exclusion.specs.World.{Setting, World, IsIdle, mem, flag, seg, book, is, holders, waits, stands, IsTidy, gdt_reg}
+use Rattle.m386_exclusion.specs.World.{Setting, World, IsIdle, mem, flag, seg, book, waits, stands, IsTidy, gdt_reg}
 
 -- a held task stands once, so it doesn't wait, and no other processor holds it
 pub held-stands : (I : Setting) (n p x : ℕ) (G : World) → p < n → (book I G).held p ≡ Some x → 1 ≤ stands n (book I G) x

@@ -1,34 +1,29 @@
 -- What the verdict's rules give: of a valid image that keeps the rules 1 to 4, and of a cycle that keeps the rules 6 to 9.
-use Rattle.std.proofs.Common.{arith, ◌≡◌, ◌≢◌, ℕ, ◌+◌, ◌*◌, ◌/◌, ◌%◌, ◌^◌, ◌<◌, ◌≤◌, ◌==◌, ◌∙◌, ◌⊎◌, inl, inr, refl, sym, ap, subst, Bool, true, false, ◌&&◌, ◌||◌, Option, Some, None, List, [], ◌∷◌, length, get_or, nat_lt, eqb, eq-eqb}
+use Rattle.std.proofs.Common.{arith, ◌≡◌, ℕ, ◌+◌, ◌*◌, ◌/◌, ◌%◌, ◌^◌, ◌<◌, ◌≤◌, ◌==◌, ◌∙◌, ◌⊎◌, inl, inr, refl, sym, ap, subst, Bool, true, false, ◌||◌, Option, Some, None, List, [], ◌∷◌, length, get_or, eq-eqb}
 use Rattle.std.proofs.lemmas.Bool.{cases_lt, lt-ltb, and_from}
-use Rattle.std.proofs.lemmas.Bool.Decides.{nat_tests}
 use Rattle.std.proofs.lemmas.List.{get_or_default, get_or_past}
-use Rattle.m386_base.specs.declared.ask.Ask.{Ask}
 use Rattle.m386_base.specs.declared.ask.Cycle.{Cycle}
 use Rattle.m386_base.specs.declared.ask.Role.{Role}
 use Rattle.m386_base.specs.declared.ask.Role.TheVariants as roles
 use Rattle.m386_base.specs.declared.ask.Space.{Space}
 use Rattle.m386_base.specs.declared.ask.Space.TheVariants as spaces
-use Rattle.m386_base.specs.Bytes.{Has, bytes_of, bytes_in, heard, has_nt}
+use Rattle.m386_base.specs.Bytes.{Has, bytes_of, bytes_in}
 use Rattle.m386_book.specs.Book.{Book, IsLive, book_after}
-use Rattle.m386_book.specs.Rules.{FailsAt, FailsStatic, IsFreeWrite, GdtIsOutside}
+use Rattle.m386_book.specs.Rules.{FailsAt, IsFreeWrite}
 use Rattle.m386_book.specs.Tss.{IsTss, IsOfTss, descriptor_byte, is_tss_access, tss_base}
 use Rattle.m386_book.specs.Verdict.{AreClean, NoneStatic}
-use Rattle.m386_image.specs.declared.image.Image.{Image}
 use Rattle.m386_image.specs.declared.image.TableAt.{TableAt}
-use Rattle.m386_image.specs.Format.{IsValid, gdt_of}
+use Rattle.m386_image.specs.Format.{IsValid}
 use Rattle.m386_image.specs.Memory.{byte_of_image}
 use Rattle.m386_image.proofs.Numbers.{u16_at_lt}
 use Rattle.m386_image.proofs.Valid.{valid_memory}
 use Rattle.m386_memory.specs.Contents.{Contents, byte_in, holds_byte}
-use Rattle.m386_state.specs.declared.segment.TableReg.{TableReg}
 use Rattle.m386_access.specs.Ordinary.{desc_byte}
 use Rattle.m386_stages.specs.Stages.{is_lgdt, is_store, segment_byte}
-use Rattle.m386_exclusion.specs.Table.{InGdt, IsTssByte, IsTask as IsTaskBy, IsTidyTable, image_base}
+use Rattle.m386_exclusion.specs.Table.{InGdt, IsTssByte, image_base}
 use Rattle.m386_exclusion.specs.World.{Setting, IsTask, IsClean, IsTidy, gdt_reg, seg}
 use Rattle.m386_exclusion.specs.Histories.{BeginsAs, AreJudged}
 use Rattle.m386_exclusion.proofs.Bytes.{image_byte}
-use Rattle.m386_exclusion.proofs.Counts.{test}
 use Rattle.m386_exclusion.proofs.Places.{task_some, task_limit, task_number, base_number}
 
 -- ---- the image

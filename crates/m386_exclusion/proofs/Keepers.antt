@@ -1,14 +1,13 @@
 -- The links are kept by each kind of change.
-use Rattle.std.proofs.Common.{◌≡◌, ◌≢◌, ℕ, zero, suc, ◌+◌, ◌*◌, ◌/◌, ◌%◌, ◌<◌, ◌≤◌, ◌==◌, Bool, true, false, List, [], ◌∷◌, ◌++◌, Option, Some, None, if◌then◌else◌, refl, sym, ap, ◌∙◌, subst, arith, ◌⊎◌, inl, inr}
+use Rattle.std.proofs.Common.{◌≡◌, ◌≢◌, ℕ, ◌/◌, ◌%◌, ◌<◌, ◌≤◌, Bool, true, false, Some, refl, sym, ap, ◌∙◌, subst, arith, ◌⊎◌, inl, inr}
 use Rattle.m386_stages.specs.Stages.{Stage}
-use Rattle.m386_book.specs.Book.{put, set, without_by, without_of, added, claimed, released, returned, linked}
-use Rattle.m386_exclusion.proofs.Counts.{test, put-here, entries-waits, entries-two, waits-none, entries-without_by, entries-without_of, entries-without_by-le, entries-without_of-le, entries-added, entries-added-new, entries-bys, entries-bys-two, bys-without_by, bys-without_of, bys-none, bys-added}
+use Rattle.m386_book.specs.Book.{without_by, without_of, claimed, released, returned, linked}
+use Rattle.m386_exclusion.proofs.Counts.{test, put-here, entries-waits, entries-two, waits-none, entries-without_by, entries-without_of, entries-without_by-le, entries-without_of-le, entries-added, entries-added-new, entries-bys-two, bys-without_by, bys-without_of, bys-none, bys-added}
 use Rattle.m386_exclusion.proofs.Frames.{waits-apart, waits-stands, stands-apart, set-back, set-there, live-kept, held-kept, flags-kept}
 use Rattle.m386_exclusion.proofs.Places.{tss-flag, tss-apart, tss-part, area-out}
 use Rattle.m386_exclusion.specs.Change.{But, Area, Same, Calm, Others, Change, Silent, Saved, Spoilt, Claim, Link, LinkOn, Release, Return}
-use Rattle.m386_exclusion.specs.Held.{holds}
 use Rattle.m386_exclusion.specs.Invariant.{entries, bys, FlagsOk, unsaved_of, pending_of, unsaved, pending, Gdt, Exempt, Pending, Linked, Links}
-use Rattle.m386_exclusion.specs.World.{Setting, World, IsTask, IsIdle, mem, flag, seg, book, is, waits, stands, IsTidy}
+use Rattle.m386_exclusion.specs.World.{Setting, World, IsTask, IsIdle, mem, flag, seg, book, is, waits, IsTidy}
 
 low-flag : (I : Setting) → IsTidy I → (u t : ℕ) → IsTask I u → IsTask I t → seg I u 0 ≢ flag I t
 low-flag I tidy u t hu ht e = tss-flag I tidy u 0 t hu (omega arith) ht (omega (arith, e))

@@ -1,5 +1,5 @@
 -- What each kind of cycle does to the world: one case for each.
-use Rattle.std.proofs.Common.{◌≡◌, ◌≢◌, ℕ, zero, suc, ◌+◌, ◌*◌, ◌/◌, ◌%◌, ◌^◌, ◌<◌, ◌≤◌, ◌==◌, Bool, true, false, List, [], ◌∷◌, ◌++◌, Option, Some, None, if◌then◌else◌, refl, sym, ap, ◌∙◌, subst, arith, ◌⊎◌, inl, inr, bit_or, bit_and}
+use Rattle.std.proofs.Common.{◌≡◌, ◌≢◌, ℕ, ◌+◌, ◌*◌, ◌/◌, ◌%◌, ◌^◌, ◌<◌, ◌≤◌, Bool, true, false, List, [], ◌∷◌, ◌++◌, Option, Some, None, refl, sym, ap, ◌∙◌, subst, arith, inl, inr, bit_or, bit_and}
 use Rattle.std.specs.List.{AllByRecursion}
 use Rattle.m386_base.specs.declared.ask.Ask.{Ask}
 use Rattle.m386_base.specs.declared.ask.Cycle.{Cycle}
@@ -11,7 +11,7 @@ use Rattle.m386_memory.specs.Contents.{byte_in}
 use Rattle.m386_memory.specs.History.{Consistent, Unsplit}
 use Rattle.m386_access.specs.Ordinary.{desc_byte, NamesGdt, IsByteWritten}
 use Rattle.m386_stages.specs.Stages.{Task, Phase, Free, Turned, Linking, Called, Jumped, Loaded, Backing, Returned, Ready, Stage, nt_set, segment_byte, IsBase, IsFreeByte, IsWritten, IsSaved, IsSavedAny, IsClaim, IsRelease, is_store, claiming, Turn, Hears, Stores, Touches, Pops_set, Claims, Claims_start, Claims_ltr, Saves, Saves_flags, Saves_back, Links_whole, Links_low, Links_high, Releases, Backs, Backs_on, Returns, Loads_flags}
-use Rattle.m386_book.specs.Book.{moved, put, set, waiter, claimed, released, returned, linked, effect, Book, task_at, IsLive}
+use Rattle.m386_book.specs.Book.{moved, waiter, claimed, released, returned, linked, effect, Book, task_at, IsLive}
 use Rattle.m386_exclusion.proofs.After.{unsaved_at, pending_at, mem_read, mem_off, mem_found, mem_missed, found_one, missed_one, found_second, found_first, missed_two, heard_found, book_read, book_write, book_flag, effect_store, effect_none, kin_small, busy_set, busy_touched}
 use Rattle.m386_exclusion.proofs.Counts.{test, put-here, entries-new, entries-bys-two, waiter-is}
 use Rattle.m386_exclusion.proofs.Frames.{held-stands, held-apart, waits-apart, waits-stands, stands-apart, set-here, set-there, flags-kept}
@@ -22,7 +22,7 @@ use Rattle.m386_exclusion.specs.Change.{But, Area, Same, Calm, Change, Silent, S
 use Rattle.m386_exclusion.specs.Held.{holds, number_of}
 use Rattle.m386_exclusion.specs.Invariant.{entries, bys, num, IsLinkRead, Owes, FlagsOk, Lives, unsaved_of, pending_of, unsaved, pending, Gdt, Linked, Links}
 use Rattle.m386_exclusion.specs.Table.{InGdt, IsTssByte, AreRight, IsRight, Kin}
-use Rattle.m386_exclusion.specs.World.{Setting, World, IsTask, IsBusy, IsIdle, mem, flag, seg, book, stands, IsTidy, gdt_reg}
+use Rattle.m386_exclusion.specs.World.{Setting, World, IsTask, IsBusy, IsIdle, mem, flag, seg, book, IsTidy, gdt_reg}
 
 phase_is : (g2 h : Stage) → g2 ≡ h → g2.phase ≡ h.phase
 phase_is g2 h e = ap (λ (s : Stage). s.phase) e

@@ -18,7 +18,6 @@ use Rattle.m386_exclusion.specs.Exclusion.{Exclusive}
 use Rattle.m386_exclusion.specs.Held.{number_of}
 use Rattle.m386_exclusion.specs.Invariant.{Invariant}
 use Rattle.m386_exclusion.specs.World.{Setting, IsClean, gdt_reg}
-use Rattle.m386_image.specs.declared.image.Image.{Image}
 use Rattle.m386_state.specs.declared.proc.Proc.{Proc}
 
 -- ---- the law of a step
