@@ -235,7 +235,15 @@ fn cs_passes_its_rules(rt: HostRuntime) {
         Err(coded(13, 0)),
     );
     let nested = flagged(&kernel(), 0x4002);
-    leaves(&rt, "with NT set", &w, &nested, at(8), 0, Err(coded(13, 0)));
+    leaves(
+        &rt,
+        "with NT set, to a back link of 0",
+        &w,
+        &nested,
+        at(8),
+        1,
+        Err(coded(10, 0)),
+    );
 }
 
 #[test]
