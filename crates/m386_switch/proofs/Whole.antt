@@ -134,6 +134,7 @@ ends_entered p kind selector direct ext l lo hi cl sv ls rl lk ok hc hs hl hr w 
         ldtr = refl;
         cr0 = refl;
         gdtr = refl;
+        trap = refl;
         nt = entered_nested kind v9;
         told = λ x e. new_told f x none e;
       });

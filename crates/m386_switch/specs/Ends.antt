@@ -31,7 +31,7 @@ use Rattle.m386_switch.specs.Fields.{field_write_ask, field_pieces}
 use Rattle.m386_switch.specs.Parts.{access_piece, claim_role, is_iret, saved_value, saved_flags}
 use Rattle.m386_switch.specs.Later.{names_place, names_local_table, new_place, is_to_mark, with_desc, segment_order, stops_at, stops_at_ldt}
 use Rattle.m386_switch.specs.Seen.{Seen, seen, facts_of, words_after_ldt}
-use Rattle.m386_switch.specs.Switch.{entered_flags, entered_seg, seg_by, no_descs}
+use Rattle.m386_switch.specs.Switch.{pending_by, entered_flags, entered_seg, seg_by, no_descs}
 
 -- the cycles that write this value to a field of the TSS at this base
 abbrev pub field_written : Role → ℕ → ℕ → ℕ → List Ask
@@ -113,7 +113,7 @@ all_marks_of m f ws = if stops_at_ldt (first_fail_of f) then [] else marks_of m 
 -- linked: the incoming link. released: the outgoing busy bit. marked: the accessed bytes of
 -- segment registers. loaded: each of fields 8 to 25 was read whole. tr, regs, eip, eflags,
 -- segs, ldtr, cr0, gdtr: the state in the new task, where a segment register and LDTR can be used only where their descriptors were
--- read and none of their rows fails. nt: the incoming NT. told: a row that fails is reported in the new task.
+-- read and none of their rows fails. trap: vector 1 by the T bit, where all rows hold. nt: the incoming NT. told: a row that fails is reported in the new task.
 -- Source: Intel 80386 PRM 7.5, 7.6
 pub record IsEntered (m : Attempt) (g : Seen) (f : Facts) (p after : Proc) : Type 0 where
   pub desc : Desc
@@ -134,6 +134,7 @@ pub record IsEntered (m : Attempt) (g : Seen) (f : Facts) (p after : Proc) : Typ
   pub ldtr : after.ldtr ≡ seg_by f.ldt f.ldt_desc (stops_at_ldt (first_fail_of f))
   pub cr0 : after.cr0 ≡ bit_or p.cr0 8
   pub gdtr : after.gdtr ≡ p.gdtr
+  pub trap : after.pending ≡ pending_by (first_fail_of f) (g.loads 25).number p.pending
   pub nt : has_flag NestedTask after.eflags ≡ nt_of f.kind (g.loads 9).number
   pub told : (x : Fail) → first_fail_of f ≡ Some x → x.context ≡ New
 

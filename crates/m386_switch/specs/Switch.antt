@@ -1,10 +1,12 @@
 -- The task switch: its parts laid end to end, and the state behind it.
-use Rattle.std.specs.Prelude.{ℕ, Bool, true, false, List, [], ◌∷◌, ◌%◌, ◌^◌, if◌then◌else◌, bit_or, bit_and, Option, Some, None, slice_index, slice_range, not, ◌&&◌, ◌||◌}
+use Rattle.std.specs.Prelude.{ℕ, Bool, true, false, List, [], ◌∷◌, ◌%◌, ◌^◌, ◌==◌, if◌then◌else◌, bit_or, bit_and, Option, Some, None, slice_index, slice_range, not, ◌&&◌, ◌||◌}
 use Rattle.m386_base.specs.declared.desc.Desc.{Desc}
+use Rattle.m386_base.specs.declared.exception.Exception.TheVariants.{Debug}
 use Rattle.m386_base.specs.declared.flags.Flag.TheVariants.{NestedTask}
 use Rattle.m386_base.specs.declared.kind.SwitchKind.{SwitchKind}
 use Rattle.m386_base.specs.declared.kind.SwitchKind.TheVariants as switches
 use Rattle.m386_base.specs.declared.number.Flags.{Flags}
+use Rattle.m386_base.specs.Exceptions.{vector_of}
 use Rattle.m386_base.specs.Flags.{with_flag}
 use Rattle.m386_base.specs.Phrase.{Phrase, Done, Begins, Attempt, ◌>>=◌}
 use Rattle.m386_base.specs.Segments.{es, cs, ss, ds, fs, gs}
@@ -16,6 +18,8 @@ use Rattle.m386_checks.specs.First.{first_fail_of}
 use Rattle.m386_checks.specs.Holds.{is_start, selector_at, descriptor_at}
 use Rattle.m386_desc.specs.Selector.{rpl_of, names_ldt, is_null_selector, is_in_table, place_in}
 use Rattle.m386_segload.specs.Segments.{usable_seg}
+use Rattle.m386_state.specs.declared.event.Cause.TheVariants as causes
+use Rattle.m386_state.specs.declared.event.Event.{Event}
 use Rattle.m386_state.specs.declared.proc.Proc.{Proc}
 use Rattle.m386_state.specs.declared.segment.Seg.{Seg}
 use Rattle.m386_state.specs.Start.{cpl_of, unusable_seg}
@@ -96,10 +100,21 @@ seg_by selector (Some d) failed = if failed then unusable_seg selector else usab
 abbrev pub entered_seg : Facts → ℕ → Seg
 entered_seg f seg = seg_by (selector_at f seg) (descriptor_at f seg) (stops_at seg (first_fail_of f))
 
+-- the event of a task whose T bit is set
+abbrev pub task_trap : Event
+task_trap = record { vector = vector_of Debug; code = None; cause = causes.Exception }
+
+-- What is pending in the new task: vector 1 where all rows hold and the T bit of its TSS, bit 0 of field 25, is set.
+-- Source: Intel 80386 PRM 7.5, 12.3.1.5
+abbrev pub pending_by : Option Fail → ℕ → Option Event → Option Event
+pending_by None number pending = if number % 2 == 1 then Some task_trap else pending
+pending_by (Some x) number pending = pending
+
 -- The state in the new task, by the finished facts: bit 3 of CR0 is TS.
 -- Source: Intel 80386 PRM 7.5
 abbrev pub entered : Proc → Desc → List ℕ → Facts → Proc
 entered p d loaded f = record p {
+  pending = pending_by (first_fail_of f) (slice_index loaded 17) p.pending;
   regs = slice_range loaded 2 10;
   eip = slice_index loaded 0;
   eflags = entered_flags f.kind (slice_index loaded 1);

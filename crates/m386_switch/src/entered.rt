@@ -1,19 +1,21 @@
 //! The facts of a task switch as they are gathered, and the state in the new task (PRM 7.5).
 ghost use Rattle.std.specs.Prelude.{◌≡◌, ◌<◌};
-ghost use Rattle.m386_switch.specs.Switch.{facts_at_first, with_fields, loaded_flags, entered_flags, seg_by, entered_seg, entered, arrived, stayed};
+ghost use Rattle.m386_switch.specs.Switch.{facts_at_first, with_fields, loaded_flags, entered_flags, pending_by, seg_by, entered_seg, entered, arrived, stayed};
 
 use crate::later::{stops_at, stops_at_ldt};
 use crate::outcome::Switched;
 use crate::parts::low_16;
 use m386_base::desc::Desc;
+use m386_base::exception::Exception;
 use m386_base::flags::{Flag, put_flag};
 use m386_base::kind::SwitchKind;
 use m386_base::number::Flags;
 use m386_base::segments::{CS, DS, ES, FS, GS, SS};
-use m386_checks::facts::Facts;
+use m386_checks::facts::{Facts, Fail};
 use m386_checks::first::first_fail;
 use m386_desc::selector::{in_table, rpl};
 use m386_segload::segment::usable;
+use m386_state::event::{Cause, Event};
 use m386_state::proc::{Proc, unusable};
 use m386_state::segment::Seg;
 
@@ -113,6 +115,20 @@ fn entered_seg(facts: &Facts, seg: u8) -> Seg
     )
 }
 
+/// What is pending in the new task: vector 1 where all rows hold and bit T of its TSS is set (PRM 12.3.1.5).
+fn pending_by(fail: Option<Fail>, number: u32, pending: Option<Event>) -> Option<Event>
+    ensures { result ≡ pending_by fail number pending }
+{
+    match fail {
+        None if number % 2 == 1 => Some(Event {
+            vector: Exception::Debug.vector(),
+            code: None,
+            cause: Cause::Exception,
+        }),
+        _ => pending,
+    }
+}
+
 /// The state in the new task.
 fn entered(p: &Proc, desc: Desc, loaded: &[u32; 18], facts: &Facts) -> Proc
     ensures { result ≡ entered p.now desc loaded.now facts.now }
@@ -134,6 +150,7 @@ fn entered(p: &Proc, desc: Desc, loaded: &[u32; 18], facts: &Facts) -> Proc
     after.ldtr = seg_by(facts.ldt, facts.ldt_desc, stops_at_ldt(first_fail(facts)));
     after.tr = usable(facts.selector, desc);
     after.cr0 = p.cr0 | TASK_SWITCHED;
+    after.pending = pending_by(first_fail(facts), loaded[17], p.pending);
     after
 }
 
