@@ -1,9 +1,10 @@
-//! The table of effects, line by line: busy bits, NT, the back link and TS, of switches that are whole and of those that fail in the
-//! new task.
-use super::{Change, GS_AT, LDT_AT, Ran, Way, changed, sound, switched};
+//! The table of effects, line by line: busy bits, NT, the back link, TS and the T bit, of switches that are whole and of those that fail in
+//! the new task.
+use super::{Change, GS_AT, LDT_AT, NEW_TSS, Ran, Way, changed, sound, switched};
 use m386_base::ask::Role;
 use m386_base::kind::SwitchKind;
 use m386_memory::fixed::FixedBus;
+use m386_state::event::{Cause, Event};
 use m386_switch::outcome::Outcome;
 
 /// What is written of the tasks' links and busy bits, and of the old flags.
@@ -105,6 +106,22 @@ const CHANGES: [Change; 4] = [
     Change::Field(8, 0x1_0000),
 ];
 
+/// The trap field with the map's base above it, and whether the T bit, bit 0, is set.
+const TRAPS: [(u32, bool); 5] = [
+    (0x68_0000, false),
+    (0x68_0001, true),
+    (0x69_0000, false),
+    (0xffff_fffe, false),
+    (0xffff_ffff, true),
+];
+
+/// The exception of the T bit: vector 1, without an error code.
+const DEBUG: Event = Event {
+    vector: 1,
+    code: None,
+    cause: Cause::Exception,
+};
+
 /// CR0 before and after.
 const CONTROLS: [(u32, u32); 3] = [(1, 9), (7, 0xf), (9, 9)];
 
@@ -155,6 +172,22 @@ fn ts_is_set_by_each_kind(rt: HostRuntime) {
                 let Ran { found, after, .. } = switched(&w, direct(kind));
                 assert!(rt; found.is_ok(), "{kind:?}");
                 assert_eq!(rt; after.cr0, new, "{kind:?} {change:?}");
+            }
+        }
+    }
+}
+
+#[test]
+fn vector_1_is_pending_where_all_rows_hold_and_the_t_bit_is_set(rt: HostRuntime) {
+    for (kind, _, _, _, _, _) in EFFECTS {
+        for change in CHANGES.iter().chain(&[Change::Limit(NEW_TSS, 0x66)]) {
+            for (field, set) in TRAPS {
+                let w = changed(&changed(&sound(kind), *change), Change::Field(25, field));
+                let Ran { found, after, .. } = switched(&w, direct(kind));
+                let whole = matches!(change, Change::Nothing);
+                let pending = if whole && set { Some(DEBUG) } else { None };
+                assert_eq!(rt; found == Ok(Outcome::Done), whole, "{kind:?} {change:?}");
+                assert_eq!(rt; after.pending, pending, "{kind:?} {change:?} {field:x}");
             }
         }
     }
