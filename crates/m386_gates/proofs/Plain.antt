@@ -37,15 +37,18 @@ use Rattle.m386_transfer.specs.declared.place.Target.{Target}
 use Rattle.m386_transfer.specs.Gate.{gate_of}
 use Rattle.m386_transfer.specs.Place.{target_fault}
 use Rattle.m386_transfer.proofs.Plain.{stack_for_then, stays_placed, return_plain}
-use Rattle.m386_transfer.proofs.Tried.{tried_if, tried_faults, tried_bind, tried_simply, tried_switch, ReadsAlone, reads_since, reads_then, reads_done, reads_faults, read_alone, load_desc_alone}
+use Rattle.m386_transfer.proofs.Tried.{tried_faults, tried_bind, tried_simply, tried_switch, tried_need, ReadsAlone, reads_since, reads_then, reads_done, reads_faults, read_alone, load_desc_alone}
+use Rattle.m386_transfer.specs.Executed.{switching_phrase}
 use Rattle.m386_transfer.specs.Tried.{AreReads, Tried, KeepsRun, TriedFrom}
 use Rattle.m386_gates.specs.Calls.{released_of, enter_phrase, call_phrase, return_near_phrase, return_by, return_phrase}
 use Rattle.m386_gates.specs.Copies.{copy_phrase, copies_phrase, carry_phrase, carried_phrase}
 use Rattle.m386_gates.specs.Exec.{action_phrase, exec_phrase}
-use Rattle.m386_gates.specs.Far.{pointer_in, pointer_phrase, linked_phrase, direct_target, direct_phrase, arrive_phrase, through_stack_phrase, gate_at, through_phrase, gate_phrase, is_call_gate, is_task, switch_kind_of, task_brief, by_type_phrase, far_candidate, far_to_phrase, far_phrase}
+use Rattle.m386_gates.specs.Far.{pointer_in, pointer_phrase, linked_phrase, direct_target, direct_phrase, arrive_phrase, through_stack_phrase, gate_at, through_phrase, gate_phrase, destination_of, switch_kind_of, task_brief, task_gate_phrase, to_destination_phrase, by_type_phrase, far_candidate, far_to_phrase, far_phrase}
 use Rattle.m386_gates.specs.Near.{near_target, near_phrase, target_of_args, target_phrase, jump_phrase, branch_phrase, counted_down}
 use Rattle.m386_gates.specs.Returns.{behind_one, behind_two, return_far_phrase, far_return_by, far_return_phrase}
 use Rattle.m386_gates.specs.Transfer.{transfer_of, transfer_phrase}
+use Rattle.m386_gates.specs.declared.far.Destination.{Destination}
+use Rattle.m386_gates.specs.declared.far.Destination.TheVariants as destinations
 use Rattle.m386_gates.specs.declared.far.Far.{Far as FarKind}
 use Rattle.m386_gates.specs.declared.far.Far.TheVariants as fars
 use Rattle.m386_segload.specs.declared.pointer.FarPointer.{FarPointer}
@@ -175,17 +178,28 @@ gate_plain : (p : Proc) (far : FarKind) (c : Candidate) (ts : List Ask) → Plai
 unfolding gate_phrase
 gate_plain p far c ts = plain_need p.gdtr 146 (Keeps p) ts (first_broken call_gate_rules c) _ (through_plain far p (or_zeros c.desc) ts)
 
+no_start : (far : FarKind) → is_start (switch_kind_of far) ≡ false
+no_start fars.Jump = refl
+no_start fars.Call = refl
+
+task_tried : (p : Proc) (far : FarKind) (selector : ℕ) (direct : Bool) (ts : List Ask) → AreReads ts → Tried 146 (Ordinary p.gdtr) (KeepsRun p) p ts (switching_phrase p (task_brief far selector direct))
+task_tried p far selector direct ts r = tried_switch 146 (Ordinary p.gdtr) (KeepsRun p) p (task_brief far selector direct) ts (no_start far) (omega arith) r
+
+task_gate_tried : (p : Proc) (far : FarKind) (c : Candidate) (ts : List Ask) → AreReads ts → Tried 146 (Ordinary p.gdtr) (KeepsRun p) p ts (task_gate_phrase p far c)
+unfolding task_gate_phrase
+task_gate_tried p far c ts r =
+    tried_need 146 (Ordinary p.gdtr) (KeepsRun p) p ts (first_broken call_gate_rules c) _ (task_tried p far (gate_of (or_zeros c.desc)).selector false ts r)
+
 -- behind reads alone: the descriptor of the selector
+to_destination_tried : (to : Destination) (p : Proc) (far : FarKind) (w : Width) (offset : ℕ) (c : Candidate) (ts : List Ask) → Found p c.selector ts c.desc → AreReads ts → Tried 146 (Ordinary p.gdtr) (KeepsRun p) p ts (to_destination_phrase to p far w offset c)
+to_destination_tried destinations.Code p far w offset c ts f r = tried_simply 5 146 p ts _ (omega arith) (five_direct p far w offset c ts f)
+to_destination_tried destinations.CallGate p far w offset c ts f r = tried_simply 146 146 p ts _ (omega arith) (gate_plain p far c ts)
+to_destination_tried destinations.Task p far w offset c ts f r = task_tried p far c.selector true ts r
+to_destination_tried destinations.TaskGate p far w offset c ts f r = task_gate_tried p far c ts r
+
 by_type_tried : (p : Proc) (far : FarKind) (w : Width) (offset : ℕ) (c : Candidate) (ts : List Ask) → Found p c.selector ts c.desc → AreReads ts → Tried 146 (Ordinary p.gdtr) (KeepsRun p) p ts (by_type_phrase p far w offset c)
 unfolding by_type_phrase
-by_type_tried p far w offset c ts f r =
-    tried_if 146 (Ordinary p.gdtr) (KeepsRun p) p ts (is_call_gate c.desc) _ _ (tried_simply 146 146 p ts _ (omega arith) (gate_plain p far c ts))
-    (tried_if 146 (Ordinary p.gdtr) (KeepsRun p) p ts (is_task c.desc) _ _ (tried_switch 146 (Ordinary p.gdtr) (KeepsRun p) p (task_brief far c.selector) ts (no_start far) (omega arith) r)
-    (tried_simply 5 146 p ts _ (omega arith) (five_direct p far w offset c ts f)))
-  where
-    no_start : (far : FarKind) → is_start (switch_kind_of far) ≡ false
-    no_start fars.Jump = refl
-    no_start fars.Call = refl
+by_type_tried p far w offset c ts f r = to_destination_tried (destination_of c.desc) p far w offset c ts f r
 
 table_role_reads : (s : ℕ) → is_read_role (table_role s) ≡ true
 table_role_reads s = go (names_ldt s)

@@ -1,4 +1,4 @@
--- Far JMP and CALL: to code that the selector names itself, through a call gate, and to a task.
+-- Far JMP and CALL: to code that the selector names itself, through a call gate, and to a task, by itself or through a task gate.
 use Rattle.std.specs.Prelude.{ℕ, Bool, true, false, List, [], ◌∷◌, if◌then◌else◌, Option, Some, None}
 use Rattle.m386_base.specs.declared.desc.Desc.{Desc}
 use Rattle.m386_base.specs.declared.kind.SwitchKind.{SwitchKind}
@@ -10,7 +10,7 @@ use Rattle.m386_base.specs.Phrase.{Phrase, Done, Faults, ◌>>=◌}
 use Rattle.m386_base.specs.Segments.{cs}
 use Rattle.m386_desc.specs.declared.gate.Gate4.{Gate4}
 use Rattle.m386_desc.specs.declared.kind.Kind.{Kind}
-use Rattle.m386_desc.specs.declared.kind.Kind.TheVariants.{CallGate, Tss}
+use Rattle.m386_desc.specs.declared.kind.Kind.TheVariants as kinds
 use Rattle.m386_desc.specs.Access.{kind_of}
 use Rattle.m386_desc.specs.Selector.{code_of}
 use Rattle.m386_opmap.specs.declared.op.Arg.{Arg}
@@ -32,6 +32,8 @@ use Rattle.m386_transfer.specs.declared.place.Target.{Target}
 use Rattle.m386_transfer.specs.Executed.{simply, switching_phrase}
 use Rattle.m386_transfer.specs.Gate.{gate_of}
 use Rattle.m386_transfer.specs.Place.{level_of, target_fault, stack_for_phrase, placed}
+use Rattle.m386_gates.specs.declared.far.Destination.{Destination}
+use Rattle.m386_gates.specs.declared.far.Destination.TheVariants as destinations
 use Rattle.m386_gates.specs.declared.far.Far.{Far}
 use Rattle.m386_gates.specs.declared.far.Far.TheVariants.{Jump, Call}
 use Rattle.m386_segload.specs.declared.pointer.FarPointer.{FarPointer}
@@ -93,40 +95,46 @@ through_phrase p far g = gate_target_phrase far p g.selector >>= (λ d. through_
 unfoldable pub gate_phrase : Proc → Far → Candidate → Phrase Proc
 gate_phrase p far c = need (first_broken call_gate_rules c) (through_phrase p far (gate_of (or_zeros c.desc)))
 
-abbrev pub is_call_gate_kind : Kind → Bool
-is_call_gate_kind CallGate = true
-is_call_gate_kind _ = false
+-- A TSS may be busy or available. Each type that is none of the three is tried as code.
+abbrev pub destination_by : Kind → Destination
+destination_by kinds.CallGate = destinations.CallGate
+destination_by kinds.TaskGate = destinations.TaskGate
+destination_by (kinds.Tss busy) = destinations.Task
+destination_by _ = destinations.Code
 
-abbrev pub is_call_gate : Option Desc → Bool
-is_call_gate None = false
-is_call_gate (Some d) = is_call_gate_kind (kind_of d)
-
-abbrev pub is_task_kind : Kind → Bool
-is_task_kind (Tss busy) = true
-is_task_kind _ = false
-
--- a TSS, busy or available
-abbrev pub is_task : Option Desc → Bool
-is_task None = false
-is_task (Some d) = is_task_kind (kind_of d)
+-- Where a far transfer leads to, by the type of the descriptor that was found.
+-- Source: Intel 80386 PRM 6.3.3, 6.3.4, 7.5
+abbrev pub destination_of : Option Desc → Destination
+destination_of None = destinations.Code
+destination_of (Some d) = destination_by (kind_of d)
 
 -- what makes the switch
 abbrev pub switch_kind_of : Far → SwitchKind
 switch_kind_of Jump = switches.Jmp
 switch_kind_of Call = switches.Call
 
--- The switch to a task whose TSS the selector names itself.
+-- The switch to the task of a TSS, by whether the transfer names the TSS itself or a gate does.
 -- Source: Intel 80386 PRM 7.5
-abbrev pub task_brief : Far → ℕ → Brief
-task_brief far selector = record { kind = switch_kind_of far; selector = selector; direct = true; ext = false }
+abbrev pub task_brief : Far → ℕ → Bool → Brief
+task_brief far selector direct = record { kind = switch_kind_of far; selector = selector; direct = direct; ext = false }
 
--- By the type of what was found. A switch reads the descriptor of its TSS anew.
--- Source: Intel 80386 PRM 6.3.3, 7.5; a task gate: docs/DECISIONS.md, "Task gates before they are built"
+-- A task gate: its rules, which are those of a call gate, and the switch to the task that it names. The privilege of its TSS isn't
+-- tested.
+-- Source: Intel 80386 PRM 7.4, 7.5
+unfoldable pub task_gate_phrase : Proc → Far → Candidate → Phrase Executed
+task_gate_phrase p far c = need (first_broken call_gate_rules c) (switching_phrase p (task_brief far (gate_of (or_zeros c.desc)).selector false))
+
+-- A switch reads the descriptor of its TSS anew.
+abbrev pub to_destination_phrase : Destination → Proc → Far → Width → ℕ → Candidate → Phrase Executed
+to_destination_phrase destinations.Code p far w offset c = simply (direct_phrase p far w offset c)
+to_destination_phrase destinations.CallGate p far w offset c = simply (gate_phrase p far c)
+to_destination_phrase destinations.Task p far w offset c = switching_phrase p (task_brief far c.selector true)
+to_destination_phrase destinations.TaskGate p far w offset c = task_gate_phrase p far c
+
+-- By the type of what was found.
+-- Source: Intel 80386 PRM 6.3.3, 6.3.4, 7.5
 unfoldable pub by_type_phrase : Proc → Far → Width → ℕ → Candidate → Phrase Executed
-by_type_phrase p far w offset c =
-    if is_call_gate c.desc then simply (gate_phrase p far c)
-    else if is_task c.desc then switching_phrase p (task_brief far c.selector)
-    else simply (direct_phrase p far w offset c)
+by_type_phrase p far w offset c = to_destination_phrase (destination_of c.desc) p far w offset c
 
 -- what the rules for a selector are read over
 abbrev pub far_candidate : Proc → ℕ → Option Desc → Candidate

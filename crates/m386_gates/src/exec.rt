@@ -40,7 +40,7 @@ fn act<B: Bus>(
     }
 }
 
-/// An operation of this crate, from a state with EIP behind it. A far JMP or CALL to a TSS comes to a switch, and answers what that
+/// An operation of this crate, from a state with EIP behind it. A far JMP or CALL to a task comes to a switch, and answers what that
 /// came to; a fault is one of the others, and is seen in the state before the instruction.
 #[tactic(auto, using(m386_base::proofs::Phrases::calls), unfolding(crate::specs::Exec::exec_phrase))]
 pub fn attempt<B: Bus>(p: &Proc, op: &Op, bus: &mut B) -> Result<Executed, Break>

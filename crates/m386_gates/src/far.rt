@@ -1,9 +1,9 @@
-//! Far JMP and CALL: to code that the selector names itself, through a call gate, and to a task (PRM 6.3.3, 6.3.4, 7.5; 17.2.2.11, CALL,
-//! JMP).
-ghost use Rattle.std.specs.Prelude.{◌≡◌, ◌<◌, false, is_some};
+//! Far JMP and CALL: to code that the selector names itself, through a call gate, and to a task, by itself or through a task gate (PRM 6.3.3,
+//! 6.3.4, 7.4, 7.5; 17.2.2.11, CALL, JMP).
+ghost use Rattle.std.specs.Prelude.{◌≡◌, ◌<◌, true, false, is_some};
 ghost use Rattle.m386_base.specs.Phrase.{Performs, it};
 ghost use Rattle.m386_transfer.specs.Executed.{switching_phrase};
-ghost use Rattle.m386_gates.specs.Far.{pointer_phrase, linked_phrase, arrive_phrase, direct_phrase, gate_target_phrase, through_stack_phrase, through_phrase, gate_phrase, is_call_gate, is_task, switch_kind_of, task_brief, by_type_phrase, far_to_phrase, far_phrase};
+ghost use Rattle.m386_gates.specs.Far.{pointer_phrase, linked_phrase, arrive_phrase, direct_phrase, gate_target_phrase, through_stack_phrase, through_phrase, gate_phrase, destination_of, switch_kind_of, task_brief, task_gate_phrase, by_type_phrase, far_to_phrase, far_phrase};
 
 use crate::copies::carried;
 use crate::near::near_target;
@@ -42,6 +42,19 @@ pub enum Far {
     Jump,
     /// CALL, which pushes CS and EIP.
     Call,
+}
+
+/// Where a far transfer leads to.
+#[derive(Clone, Copy)]
+pub enum Destination {
+    /// Code that the selector names itself, or what can't be reached.
+    Code,
+    /// What a call gate leads to.
+    CallGate,
+    /// The task of a TSS.
+    Task,
+    /// The task that a task gate names.
+    TaskGate,
 }
 
 /// The far pointer of an operation, in the instruction or in memory.
@@ -200,23 +213,18 @@ fn gate<B: Bus>(p: &Proc, bus: &mut B, far: Far, c: &Candidate) -> Result<Proc, 
     }
 }
 
-/// Whether a call gate was found.
-fn is_call_gate(found: Option<Desc>) -> bool
-    ensures { result ≡ is_call_gate found }
+/// Where a far transfer leads to, by the type of the descriptor that was found. A TSS may be busy or available.
+fn destination_of(found: Option<Desc>) -> Destination
+    ensures { result ≡ destination_of found }
 {
     match found {
-        Some(desc) => matches!(kind(&desc), Kind::CallGate),
-        None => false,
-    }
-}
-
-/// Whether a TSS was found, busy or available.
-fn is_task(found: Option<Desc>) -> bool
-    ensures { result ≡ is_task found }
-{
-    match found {
-        Some(desc) => matches!(kind(&desc), Kind::Tss { .. }),
-        None => false,
+        Some(desc) => match kind(&desc) {
+            Kind::CallGate => Destination::CallGate,
+            Kind::TaskGate => Destination::TaskGate,
+            Kind::Tss { .. } => Destination::Task,
+            _ => Destination::Code,
+        },
+        None => Destination::Code,
     }
 }
 
@@ -230,24 +238,47 @@ fn switch_kind_of(far: Far) -> SwitchKind
     }
 }
 
+/// The switch to the task of a TSS, by whether the transfer names the TSS itself or a gate does.
+fn task_brief(far: Far, selector: u16, direct: bool) -> Brief
+    ensures { result ≡ task_brief far selector direct }
+{
+    Brief {
+        kind: switch_kind_of(far),
+        selector,
+        direct,
+        ext: false,
+    }
+}
+
 /// The switch to a task whose TSS the selector names itself. The bus is freed, and the descriptor is read anew.
 #[tactic(auto, using(m386_base::proofs::Phrases::held))]
 fn to_task<B: Bus>(p: &Proc, bus: &mut B, far: Far, c: &Candidate) -> Result<Executed, Break>
     requires kept { (B.view bus.old).kept ≡ is_some c.now.desc }
-    ensures cycles { Performs (switching_phrase p.now (task_brief far c.now.selector)) (B.view bus.old) (B.view bus.new) it result }
+    ensures cycles { Performs (switching_phrase p.now (task_brief far c.now.selector true)) (B.view bus.old) (B.view bus.new) it result }
     ensures free { (B.view bus.new).kept ≡ false }
 {
     leave(bus);
-    let brief = Brief {
-        kind: switch_kind_of(far),
-        selector: c.selector,
-        direct: true,
-        ext: false,
-    };
-    make_switch(p, bus, brief)
+    make_switch(p, bus, task_brief(far, c.selector, true))
 }
 
-/// By the type of what was found. A task gate counts as another type, as long as none is built.
+/// A task gate that was read: its rules, which are those of a call gate, and the switch to the task that it names. The bus is freed.
+#[tactic(auto, using(m386_base::proofs::Phrases::held), unfolding(crate::specs::Far::task_gate_phrase))]
+fn task_gate<B: Bus>(p: &Proc, bus: &mut B, far: Far, c: &Candidate) -> Result<Executed, Break>
+    requires kept { (B.view bus.old).kept ≡ is_some c.now.desc }
+    ensures cycles { Performs (task_gate_phrase p.now far c.now) (B.view bus.old) (B.view bus.new) it result }
+    ensures free { (B.view bus.new).kept ≡ false }
+{
+    leave(bus);
+    match first_broken(&CALL_GATE_RULES, c) {
+        Some(fault) => Err(Break::Fault(fault)),
+        None => {
+            let selector = gate_of(&or_zeros(c.desc)).selector;
+            make_switch(p, bus, task_brief(far, selector, false))
+        }
+    }
+}
+
+/// By the type of what was found.
 #[tactic(auto, using(m386_base::proofs::Phrases::calls), unfolding(crate::specs::Far::by_type_phrase, m386_transfer::specs::Executed::simply))]
 fn by_type<B: Bus>(
     p: &Proc,
@@ -261,15 +292,12 @@ fn by_type<B: Bus>(
     ensures cycles { Performs (by_type_phrase p.now far width offset c.now) (B.view bus.old) (B.view bus.new) it result }
     ensures free { (B.view bus.new).kept ≡ false }
 {
-    if is_call_gate(c.desc) {
-        let after = gate(p, bus, far, c)?;
-        return Ok(ran_to(after));
+    match destination_of(c.desc) {
+        Destination::Code => Ok(ran_to(direct(p, bus, far, width, offset, c)?)),
+        Destination::CallGate => Ok(ran_to(gate(p, bus, far, c)?)),
+        Destination::Task => to_task(p, bus, far, c),
+        Destination::TaskGate => task_gate(p, bus, far, c),
     }
-    if is_task(c.desc) {
-        return to_task(p, bus, far, c);
-    }
-    let after = direct(p, bus, far, width, offset, c)?;
-    Ok(ran_to(after))
 }
 
 /// A far transfer by its pointer. The descriptor is read before any rule is tested.
@@ -291,7 +319,8 @@ fn far_to<B: Bus>(
     by_type(p, bus, far, width, pointer.offset, &c)
 }
 
-/// Far JMP or CALL. A fault comes exactly by the first rule that is broken. To a TSS it is a task switch, whatever it comes to.
+/// Far JMP or CALL. A fault comes exactly by the first rule that is broken. To a TSS or a task gate that passes its rules it is a task
+/// switch, whatever it comes to.
 #[tactic(auto, using(m386_base::proofs::Phrases::calls), unfolding(crate::specs::Far::far_phrase))]
 pub(crate) fn transfer_far<B: Bus>(
     p: &Proc,

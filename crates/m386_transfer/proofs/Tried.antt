@@ -1,5 +1,5 @@
 -- The combinators of the law of an instruction that may end in a task switch.
-use Rattle.std.proofs.Common.{◌≡◌, ℕ, zero, suc, ◌+◌, ◌-◌, ◌≤◌, List, [], ◌∷◌, refl, subst, sym, arith, cond, Bool, true, false, None, nat_le}
+use Rattle.std.proofs.Common.{◌≡◌, ℕ, zero, suc, ◌+◌, ◌-◌, ◌≤◌, List, [], ◌∷◌, refl, subst, sym, arith, cond, Bool, true, false, Option, Some, None, nat_le}
 use Rattle.m386_base.specs.declared.ask.Ask.{Ask}
 use Rattle.m386_base.specs.declared.ask.Role.{Role}
 use Rattle.m386_base.specs.declared.fault.Fault.{Fault}
@@ -14,6 +14,7 @@ use Rattle.m386_access.specs.Ordinary.{Ordinary, Keeps}
 use Rattle.m386_checks.specs.Holds.{is_start}
 use Rattle.m386_segload.specs.Descriptors.{word_reads, descriptor_phrase}
 use Rattle.m386_segload.specs.Load.{load_desc_phrase}
+use Rattle.m386_segload.specs.Rules.{need}
 use Rattle.m386_segload.specs.Tables.{is_there, place_for}
 use Rattle.m386_state.specs.declared.proc.Proc.{Proc}
 use Rattle.m386_switch.specs.Switch.{switch_phrase, work_phrase}
@@ -33,6 +34,11 @@ tried_faults n may ends p ts f = tt
 pub tried_if : (n : ℕ) (may : List Ask → Ask → Type 0) (ends : List Ask → Executed → Type 0) (p : Proc) (ts : List Ask) (b : Bool) (t u : Phrase Executed) → Tried n may ends p ts t → Tried n may ends p ts u → Tried n may ends p ts (cond b t u)
 tried_if n may ends p ts true t u h k = h
 tried_if n may ends p ts false t u h k = k
+
+-- what follows where no rule is broken
+pub tried_need : (n : ℕ) (may : List Ask → Ask → Type 0) (ends : List Ask → Executed → Type 0) (p : Proc) (ts : List Ask) (o : Option Fault) (t : Phrase Executed) → Tried n may ends p ts t → Tried n may ends p ts (need o t)
+tried_need n may ends p ts (Some f) t h = tried_faults n may ends p ts f
+tried_need n may ends p ts None t h = h
 
 -- a phrase that comes to no switch
 pub tried_plain : (n : ℕ) (may : List Ask → Ask → Type 0) (ends : List Ask → Executed → Type 0) (p : Proc) (ts : List Ask) (t : Phrase Executed) → Plain n may ends ts t → Tried n may ends p ts t

@@ -3,6 +3,7 @@ mod call_gates;
 mod inner_stacks;
 mod near;
 mod returns;
+mod task_gates;
 mod tasks;
 mod transfers;
 

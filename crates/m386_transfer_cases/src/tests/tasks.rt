@@ -1,5 +1,5 @@
-//! Worked task switches within a step: the start, far JMP and CALL to a TSS, IRET with NT set, and LTR. Three tasks, 18h, 20h and 28h, have
-//! their TSSs at 3000h, 3080h and 3100h.
+//! Worked task switches within a step: the start, far JMP and CALL to a TSS and through a task gate, IRET with NT set, and LTR. Three
+//! tasks, 18h, 20h and 28h, have their TSSs at 3000h, 3080h and 3100h.
 
 use m386_worked::texts::all_made;
 
@@ -111,12 +111,116 @@ JMP to a TSS without a task: no further cycle
  r gdt 0 1028 f 31000067
  r+ gdt 0 102c f 8900
  after pending=d:0
-JMP to a task gate, which isn't built
+JMP through a task gate to the task itself
  r fetch 0 4000 f ea
  r fetch 0 4004 f 2000
  r gdt 0 1020 f 180000
  r+ gdt 0 1024 f 8500
- after pending=d:20
+ r tss 0 1018 f 30000067
+ r+ tss 0 101c f 8b00
+ after pending=d:18
+CALL through a task gate
+ r fetch 0 4000 f 9a
+ r fetch 0 4004 f 3000
+ r gdt 0 1030 f 200000
+ r+ gdt 0 1034 f 8500
+ r tss 0 1020 f 30800067
+ r+ tss 0 1024 f 8900
+ w+ claimcall 0 1024 2 8b00
+ w save 8 3020 f 4007
+ w save 9 3024 f 2
+ w save a 3028 f 0
+ w save b 302c f 0
+ w save c 3030 f 0
+ w save d 3034 f 0
+ w save e 3038 f 5000
+ w save f 303c f 0
+ w save 10 3040 f 0
+ w save 11 3044 f 0
+ w save 12 3048 3 0
+ w save 13 304c 3 8
+ w save 14 3050 3 10
+ w save 15 3054 3 10
+ w save 16 3058 3 0
+ w save 17 305c 3 0
+ w link 0 3080 3 18
+ r load 8 30a0 f 4100
+ r load 9 30a4 f 2
+ r load a 30a8 f 0
+ r load b 30ac f 0
+ r load c 30b0 f 0
+ r load d 30b4 f 0
+ r load e 30b8 f 6000
+ r load f 30bc f 0
+ r load 10 30c0 f 0
+ r load 11 30c4 f 0
+ r load 12 30c8 3 0
+ r load 13 30cc 3 8
+ r load 14 30d0 3 10
+ r load 15 30d4 3 10
+ r load 16 30d8 3 0
+ r load 17 30dc 3 0
+ r load 18 30e0 3 0
+ r load 19 30e4 3 0
+ r gdt 0 1008 f ffff
+ r+ gdt 0 100c f cf9b00
+ r gdt 0 1010 f ffff
+ r+ gdt 0 1014 f cf9300
+ r gdt 0 1010 f ffff
+ r+ gdt 0 1014 f cf9300
+ after eip=4100 flags=4002 esp=6000 tr=20:3080:67:89:0
+JMP through a task gate of the LDT
+ before ldtr=38:1100:f:82:0
+ r fetch 0 4000 f ea
+ r fetch 0 4004 f c00
+ r ldt 0 1108 f 200000
+ r+ ldt 0 110c f 8500
+ r tss 0 1020 f 30800067
+ r+ tss 0 1024 f 8900
+ w+ claimjmp 0 1024 2 8b00
+ w save 8 3020 f 4007
+ w save 9 3024 f 2
+ w save a 3028 f 0
+ w save b 302c f 0
+ w save c 3030 f 0
+ w save d 3034 f 0
+ w save e 3038 f 5000
+ w save f 303c f 0
+ w save 10 3040 f 0
+ w save 11 3044 f 0
+ w save 12 3048 3 0
+ w save 13 304c 3 8
+ w save 14 3050 3 10
+ w save 15 3054 3 10
+ w save 16 3058 3 0
+ w save 17 305c 3 0
+ r reljmp 0 101c 2 8b00
+ w+ reljmp 0 101c 2 8900
+ r load 8 30a0 f 4100
+ r load 9 30a4 f 2
+ r load a 30a8 f 0
+ r load b 30ac f 0
+ r load c 30b0 f 0
+ r load d 30b4 f 0
+ r load e 30b8 f 6000
+ r load f 30bc f 0
+ r load 10 30c0 f 0
+ r load 11 30c4 f 0
+ r load 12 30c8 3 0
+ r load 13 30cc 3 8
+ r load 14 30d0 3 10
+ r load 15 30d4 3 10
+ r load 16 30d8 3 0
+ r load 17 30dc 3 0
+ r load 18 30e0 3 0
+ r load 19 30e4 3 0
+ r gdt 0 1008 f ffff
+ r+ gdt 0 100c f cf9b00
+ r gdt 0 1010 f ffff
+ r+ gdt 0 1014 f cf9300
+ r gdt 0 1010 f ffff
+ r+ gdt 0 1014 f cf9300
+ after ldtr=-0:0:0:0:0 eip=4100 flags=2 esp=6000 tr=20:3080:67:89:0
 JMP to a 286 TSS, which is another type
  r fetch 0 4000 f ea
  r fetch 0 4004 f 2000
@@ -369,5 +473,5 @@ LTR at level 3, before its operand
 
 #[test]
 fn each_way_into_a_switch(rt: HostRuntime) {
-    assert_eq!(rt; all_made(SWITCHES), Ok(20));
+    assert_eq!(rt; all_made(SWITCHES), Ok(22));
 }

@@ -163,7 +163,7 @@ fn far(opcode: u8, selector: u16, offset: u32) -> u64 {
 
 /// A direct transfer that is refused: its name, CPL, the selector, the high doubleword of descriptor 48, which is flat, the
 /// offset, the cycles, the vector and the code.
-static DIRECT: [(&str, u8, u16, u32, u32, usize, u8, u16); 22] = [
+static DIRECT: [(&str, u8, u16, u32, u32, usize, u8, u16); 21] = [
     ("null", 3, 0, 0, 0, 2, 13, 0),
     ("null with RPL 3", 3, 3, 0, 0, 2, 13, 0),
     ("past the GDT", 3, 0x5b, 0, 0, 2, 13, 0x58),
@@ -171,7 +171,6 @@ static DIRECT: [(&str, u8, u16, u32, u32, usize, u8, u16); 22] = [
     ("an empty descriptor", 3, 0x4b, 0, 0, 4, 13, 0x48),
     ("data", 3, 0x4b, 0xcf_f300, 0, 4, 13, 0x48),
     ("code of 16 bits", 3, 0x4b, 0x8f_fb00, 0, 4, 13, 0x48),
-    ("a task gate", 3, 0x4b, 0xe500, 0, 4, 13, 0x48),
     ("an LDT", 3, 0x4b, 0xe200, 0, 4, 13, 0x48),
     ("an interrupt gate", 3, 0x4b, 0xee00, 0, 4, 13, 0x48),
     ("a trap gate", 3, 0x4b, 0xef00, 0, 4, 13, 0x48),
