@@ -7,6 +7,11 @@ abbrev pub option_then : {A B : Type 0} → Option A → (A → Option B) → Op
 option_then None f = None
 option_then (Some a) f = f a
 
+-- what there is, or else the other
+abbrev pub option_else : {A : Type 0} → Option A → Option A → Option A
+option_else None other = other
+option_else (Some a) other = Some a
+
 -- each of these
 unfoldable pub all_some : {A : Type 0} → List (Option A) → Option (List A)
 all_some [] = Some []

@@ -31,7 +31,7 @@ pub fn signed(tokens: &[Token<'_>]) -> Option<i64>
 }
 
 /// What a word is in an expression.
-fn term(word: &[u8]) -> Option<Expression<'_>>
+pub(crate) fn term(word: &[u8]) -> Option<Expression<'_>>
     ensures value { option_map expression_seen result ≡ term word.now }
     ensures small { IfSome result (λ e. IsSmall e.number) }
 {

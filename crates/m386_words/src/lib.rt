@@ -4,6 +4,7 @@
 pub mod expression;
 pub mod name;
 pub mod number;
+pub mod operand;
 pub mod part;
 pub mod register;
 pub mod text;
