@@ -1,5 +1,5 @@
 -- The word of each operation.
-use Rattle.std.specs.Prelude.{ℕ, Bool, true, false, ◌||◌, List, ◌++◌, Option, Some, None, codes}
+use Rattle.std.specs.Prelude.{ℕ, Bool, true, false, ◌||◌, List, Option, Some, None, codes}
 use Rattle.std.specs.List.{list_any}
 use Rattle.m386_base.specs.declared.number.Width.{Width}
 use Rattle.m386_base.specs.declared.number.Width.TheVariants.{W8, W16, W32}
@@ -10,11 +10,11 @@ use Rattle.m386_opmap.specs.Opcodes.{opcode_rows}
 use Rattle.m386_opmap.specs.Operands.{width_of}
 use Rattle.m386_words.specs.Words.{same_word}
 
--- the last letter of a string operation
-abbrev pub letter : Width → List ℕ
-letter W8 = codes "b"
-letter W16 = codes "w"
-letter W32 = codes "d"
+-- the one of three words that is of a width
+abbrev pub by_width : Width → List ℕ → List ℕ → List ℕ → List ℕ
+by_width W8 b w d = b
+by_width W16 b w d = w
+by_width W32 b w d = d
 
 -- The word of an operation of a width. Far jumps and calls have the words of near ones, and what begins a coprocessor's has none.
 -- Source: Intel 80386 PRM 17.2.2; own choice: docs/DECISIONS.md, "The assembler's text"
@@ -73,11 +73,11 @@ word_of Popa w = Some (codes "popa")
 word_of Pushf w = Some (codes "pushf")
 word_of Popf w = Some (codes "popf")
 word_of Leave w = Some (codes "leave")
-word_of Movs w = Some (codes "movs" ++ letter w)
-word_of Cmps w = Some (codes "cmps" ++ letter w)
-word_of Stos w = Some (codes "stos" ++ letter w)
-word_of Lods w = Some (codes "lods" ++ letter w)
-word_of Scas w = Some (codes "scas" ++ letter w)
+word_of Movs w = Some (by_width w (codes "movsb") (codes "movsw") (codes "movsd"))
+word_of Cmps w = Some (by_width w (codes "cmpsb") (codes "cmpsw") (codes "cmpsd"))
+word_of Stos w = Some (by_width w (codes "stosb") (codes "stosw") (codes "stosd"))
+word_of Lods w = Some (by_width w (codes "lodsb") (codes "lodsw") (codes "lodsd"))
+word_of Scas w = Some (by_width w (codes "scasb") (codes "scasw") (codes "scasd"))
 word_of Jmp w = Some (codes "jmp")
 word_of Jmpf w = Some (codes "jmp")
 word_of Call w = Some (codes "call")

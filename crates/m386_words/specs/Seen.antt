@@ -13,12 +13,13 @@ use Rattle.m386_words.specs.Tokens.{seen}
 use Rattle.m386_words.specs.Expressions.{Expression}
 use Rattle.m386_words.specs.Operands.{Place, Written, General, Segment, Control, Number, Pointer, Memory}
 
+-- the bytes of a word, if there is one
+abbrev pub word_seen : Option (Bor (List ℕ)) → Option (List ℕ)
+word_seen None = None
+word_seen (Some w) = Some w.now
+
 abbrev pub expression_seen : Seen → Expression
-expression_seen e = record { name = name_seen e.name; number = e.number }
-  where
-    name_seen : Option (Bor (List ℕ)) → Option (List ℕ)
-    name_seen None = None
-    name_seen (Some w) = Some w.now
+expression_seen e = record { name = word_seen e.name; number = e.number }
 
 -- a number of 32 bits with its sign
 pub record IsSmall (n : ℤ) : Type 0 where
