@@ -10,7 +10,7 @@ use crate::number::number;
 use crate::token::Token;
 
 /// A number, with the value of a name where it has one.
-#[derive(Clone, Copy, Debug)]
+#[derive(Clone, Copy, Debug, PartialEq, Eq)]
 pub struct Expression<'a> {
     /// The name.
     pub name: Option<&'a [u8]>,

@@ -15,7 +15,7 @@ use crate::token::Token;
 use m386_base::number::Width;
 
 /// The parts of an address (PRM 2.5.3.2).
-#[derive(Clone, Copy, Debug)]
+#[derive(Clone, Copy, Debug, PartialEq, Eq)]
 pub struct Place<'a> {
     /// The segment register that stands before `:`.
     pub seg: Option<u8>,
@@ -30,7 +30,7 @@ pub struct Place<'a> {
 }
 
 /// An operand as it is written.
-#[derive(Clone, Copy, Debug)]
+#[derive(Clone, Copy, Debug, PartialEq, Eq)]
 pub enum Written<'a> {
     /// A general register of a width.
     General(Width, u8),

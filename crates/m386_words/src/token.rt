@@ -8,7 +8,7 @@ use m386_base::list::List;
 use std::alloc::Global;
 
 /// What stands in a line before its comment.
-#[derive(Clone, Copy, Debug)]
+#[derive(Clone, Copy, Debug, PartialEq, Eq)]
 pub enum Token<'a> {
     /// A longest run of letters, digits, `_` and `.`.
     Word(&'a [u8]),
