@@ -1,0 +1,5 @@
+//! Worked words of the assembler's text.
+#![tactic(auto)]
+
+#[cfg(test)]
+mod tests;
