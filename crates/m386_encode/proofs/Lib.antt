@@ -21,3 +21,6 @@ pub mod Fuller
 pub mod Widened
 pub mod WideCandidate
 pub mod WideChosen
+pub mod AlikeRows
+pub mod AlikeTails
+pub mod WideLength

@@ -102,6 +102,15 @@ pub record WideOf (op : Op) : Type 0 where
   pub bytes : List ℕ
   pub wide : IsWide op bytes
 
+-- one of so many bytes
+pub record WideAs (op : Op) (n : ℕ) : Type 0 where
+  pub bytes : List ℕ
+  pub wide : IsWide op bytes
+  pub size : length bytes ≡ n
+
+of_any_size : (op : Op) (n : ℕ) → WideAs op n → WideOf op
+of_any_size op n w = record { bytes = w.bytes; wide = w.wide }
+
 are_from : (bs : List ℕ) → Bytes bs → AllAreBytes bs
 are_from bs f = All-from_get_or (λ b. b < 256) bs 0 f
 
@@ -114,9 +123,11 @@ opcode_are o (pair h k) =
     let long : 256 ≤ o = omega arith in
     rw (le-ltb o 256 long) (All-cons (λ b. b < 256) 0x0f ((o - 0xf00) ∷ []) (omega arith) (All-cons (λ b. b < 256) (o - 0xf00) [] (omega arith) (All-nil (λ b. b < 256))))
 
-wide_by : (r : Row) (ps : List ℕ) (o mid : ℕ) (place : Option Arg) (tail : List ℕ) → Contains opcode_rows r → is_full r ≡ true → All (λ p. is_prefix p ≡ true) ps → AllAreBytes ps →
-    Whole (prefixes_of ps).seg mid place → has_modrm r ≡ is_some place → Covers r (8 * o + mid) → suits r (prefixes_of ps).lock (is_memory place) ≡ true →
-    length tail ≡ tail_length r (prefixes_of ps).narrow → Bytes tail → WideOf (operation r (fields_at ps o mid place) tail)
+-- the parts of a wide spelling make one
+pub wide_by : (r : Row) (ps : List ℕ) (o mid : ℕ) (place : Option Arg) (tail : List ℕ) → Contains opcode_rows r → is_full r ≡ true → All (λ p. is_prefix p ≡ true) ps → AllAreBytes ps →
+    (form : Whole (prefixes_of ps).seg mid place) → has_modrm r ≡ is_some place → Covers r (8 * o + mid) → suits r (prefixes_of ps).lock (is_memory place) ≡ true →
+    length tail ≡ tail_length r (prefixes_of ps).narrow → Bytes tail →
+    WideAs (operation r (fields_at ps o mid place) tail) (length (ps ++ (opcode_bytes o ++ (form.bytes ++ tail))))
 wide_by r ps o mid place tail listed full prefixes are form wanted covered suited whole behind =
     let is : IsOpcode o = opcode_of_row o r (lawful_row opcode_rows r opcodes_lawful listed) (begins_from false o mid r (form_middle form.form) covered refl) in
     let P : ℕ → Type 0 = λ b. b < 256 in
@@ -145,29 +156,33 @@ wide_by r ps o mid place tail listed full prefixes are form wanted covered suite
         full = full;
         displaced = form.displaced;
       };
+      size = refl;
     }
 
 module _ (op : Op) (bytes : List ℕ) (s : Spells op bytes) where
   all : AllAreBytes (s.prefixes ++ (opcode_bytes s.opcode ++ (s.modrm ++ s.tail)))
   all = let P : List ℕ → Type 0 = AllAreBytes in subst P s.parts s.are_bytes
 
-  before : AllAreBytes s.prefixes
+  pub before : AllAreBytes s.prefixes
   before = front_bytes s.prefixes (opcode_bytes s.opcode ++ (s.modrm ++ s.tail)) all
 
   behind : AllAreBytes (s.modrm ++ s.tail)
   behind = back_bytes (opcode_bytes s.opcode) (s.modrm ++ s.tail) (back_bytes s.prefixes (opcode_bytes s.opcode ++ (s.modrm ++ s.tail)) all)
 
-  tail_are : Bytes s.tail
+  pub tail_are : Bytes s.tail
   tail_are = bytes_from s.tail (back_bytes s.modrm s.tail behind)
 
+  pub modrm_are : Bytes s.modrm
+  modrm_are = bytes_from s.modrm (front_bytes s.modrm s.tail behind)
+
   whole_place : Whole (prefixes_of s.prefixes).seg s.middle s.place
-  whole_place = form_whole (prefixes_of s.prefixes).seg s.modrm s.middle s.place (bytes_from s.modrm (front_bytes s.modrm s.tail behind)) s.form
+  whole_place = form_whole (prefixes_of s.prefixes).seg s.modrm s.middle s.place modrm_are s.form
 
   -- by the same row
   same_row : is_full s.row ≡ true → WideOf op
   same_row full =
       let P : Op → Type 0 = WideOf in
-      subst P (sym s.spelled) (wide_by s.row s.prefixes s.opcode s.middle s.place s.tail s.listed full s.are_prefixes before whole_place s.wanted s.covered s.suited s.whole tail_are)
+      subst P (sym s.spelled) (of_any_size _ _ (wide_by s.row s.prefixes s.opcode s.middle s.place s.tail s.listed full s.are_prefixes before whole_place s.wanted s.covered s.suited s.whole tail_are))
 
   -- by the row that has in full what this one has in fewer bytes
   other_row : Widens s.row → WideOf op
@@ -183,7 +198,7 @@ module _ (op : Op) (bytes : List ℕ) (s : Spells op bytes) where
       let suited : suits (full_row s.row) (prefixes_of s.prefixes).lock (is_memory s.place) ≡ true =
       suited_by (prefixes_of s.prefixes).lock s.row.lock (is_memory s.place) (wants_memory s.row) (wants_memory (full_row s.row)) (wants_register s.row) (wants_register (full_row s.row)) x.memory x.register s.suited in
       let P : Op → Type 0 = WideOf in
-      subst P (full_operation s.row s.prefixes s.opcode o s.middle s.place s.tail t ∙ sym s.spelled) (wide_by (full_row s.row) s.prefixes o s.middle s.place t.bytes x.listed x.full s.are_prefixes before whole_place (sym x.modrm ∙ s.wanted) covered suited t.size t.are)
+      subst P (full_operation s.row s.prefixes s.opcode o s.middle s.place s.tail t ∙ sym s.spelled) (of_any_size _ _ (wide_by (full_row s.row) s.prefixes o s.middle s.place t.bytes x.listed x.full s.are_prefixes before whole_place (sym x.modrm ∙ s.wanted) covered suited t.size t.are))
 
   pub widened : WideOf op
   widened = elim (cases_Bool (is_full s.row)) [ inl e ↦ same_row e | inr e ↦ other_row (widens s.row s.listed e) ]

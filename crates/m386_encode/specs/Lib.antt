@@ -3,3 +3,4 @@ pub mod Order
 pub mod RoundTrip
 pub mod Shortest
 pub mod Wide
+pub mod Renumbered

@@ -4,6 +4,7 @@ ghost use Rattle.std.specs.List.{All, Contains};
 ghost use Rattle.m386_opmap.specs.Opcodes.{opcode_rows};
 ghost use Rattle.m386_opmap.specs.Spelling.{Spells};
 ghost use Rattle.m386_opmap.specs.declared.row.Operand.TheVariants.{Jb};
+ghost use Rattle.m386_encode.specs.Renumbered.{KeepsLength};
 ghost use Rattle.m386_encode.specs.RoundTrip.{IsReadBack};
 ghost use Rattle.m386_encode.specs.Shortest.{IsReached, no_row};
 ghost use Rattle.m386_encode.specs.Wide.{is_always_near, is_brief, is_full, IsShortestWide, IsWideSound, IsMetBy, IsMetWide, IsOffered, HasFullRow};
@@ -125,4 +126,11 @@ pub fn full_row_for_each()
 /// The jumps that are taken to stay near do: no opcode has their distance in more than a byte.
 pub fn near_jumps_stay_near()
     ensures { (r : Row) → Contains opcode_rows r → is_always_near r.name ≡ true → r.first ≡ Jb }
+{}
+
+/// What `encode_wide` writes is as long for each number: of two operations that differ in the numbers of their operands alone,
+/// and both have a spelling, the wide ones are equally long. So what stands behind an instruction has its place before the
+/// numbers are known.
+pub fn numbers_keep_the_length()
+    ensures { KeepsLength }
 {}
