@@ -23,6 +23,8 @@ use Rattle.m386_deliver.specs.Deliver.{deliver_phrase}
 use Rattle.m386_deliver.specs.Exec as deliver_specs
 use Rattle.m386_gates.proofs.Plain as gates_laws
 use Rattle.m386_gates.specs.Exec as gates_specs
+use Rattle.m386_iomap.proofs.Plain as ports_laws
+use Rattle.m386_iomap.specs.Exec as ports_specs
 use Rattle.m386_segments.proofs.Plain as segments_laws
 use Rattle.m386_segments.specs.Exec as segments_specs
 use Rattle.m386_stack.proofs.Plain as stack_laws
@@ -90,11 +92,12 @@ lawful_operation op p =
     lawful_if p (data_specs.takes op) _ _ (lawful_simply 8 p _ refl (data_laws.exec_plain op p))
     (lawful_if p (deliver_specs.takes op) _ _ (lawful_within 113 p _ refl (deliver_laws.exec_tried op p))
     (lawful_if p (gates_specs.takes op) _ _ (lawful_within 154 p _ refl (gates_laws.exec_tried op p))
+    (lawful_if p (ports_specs.takes op) _ _ (lawful_simply 6 p _ refl (ports_laws.exec_plain op p))
     (lawful_if p (segments_specs.takes op) _ _ (lawful_simply 9 p _ refl (segments_laws.exec_plain op p))
     (lawful_if p (stack_specs.takes op) _ _ (lawful_simply 16 p _ refl (stack_laws.exec_plain op p))
     (lawful_if p (string_specs.takes op) _ _ (lawful_simply 4 p _ refl (string_laws.exec_plain op p))
     (lawful_if p (system_specs.takes op) _ _ (lawful_system op p)
-    (tried_faults 160 (MayClaim p.gdtr) (KeepsUnclaimed p) p [] _)))))))
+    (tried_faults 160 (MayClaim p.gdtr) (KeepsUnclaimed p) p [] _))))))))
 
 -- It makes few cycles, the switch's among them.
 tried_short : (n : ℕ) (may : List Ask → Ask → Type 0) (ends : List Ask → Executed → Type 0) (p : Proc) (ts : List Ask) (t : Phrase Executed) → Tried n may ends p ts t → AtMost n t

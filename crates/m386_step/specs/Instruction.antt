@@ -9,6 +9,7 @@ use Rattle.m386_data.specs.Exec as data_ops
 use Rattle.m386_deliver.specs.Exec as deliver_ops
 use Rattle.m386_deliver.specs.Exec.{delivers}
 use Rattle.m386_gates.specs.Exec as gates_ops
+use Rattle.m386_iomap.specs.Exec as ports_ops
 use Rattle.m386_segments.specs.Exec as segments_ops
 use Rattle.m386_stack.specs.Exec as stack_ops
 use Rattle.m386_string.specs.Exec as string_ops
@@ -28,6 +29,7 @@ operation_phrase op p =
     if data_ops.takes op then simply (data_ops.exec_phrase op p)
     else if deliver_ops.takes op then deliver_ops.exec_phrase op p
     else if gates_ops.takes op then gates_ops.exec_phrase op p
+    else if ports_ops.takes op then simply (ports_ops.exec_phrase op p)
     else if segments_ops.takes op then simply (segments_ops.exec_phrase op p)
     else if stack_ops.takes op then simply (stack_ops.exec_phrase op p)
     else if string_ops.takes op then simply (string_ops.exec_phrase op p)

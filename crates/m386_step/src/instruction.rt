@@ -14,6 +14,7 @@ use m386_data::exec as data;
 use m386_deliver::exec as deliver;
 use m386_deliver::exec::delivers;
 use m386_gates::exec as gates;
+use m386_iomap::exec as ports;
 use m386_opmap::op::Op;
 use m386_segments::exec as segments;
 use m386_stack::exec as stack;
@@ -40,6 +41,10 @@ fn perform<B: Bus>(p: &Proc, op: &Op, bus: &mut B) -> Result<Executed, Break>
     }
     if gates::takes(op) {
         return gates::attempt(p, op, bus);
+    }
+    if ports::takes(op) {
+        ports::exec(&mut after, op, bus)?;
+        return Ok(ran_to(after));
     }
     if segments::takes(op) {
         segments::exec(&mut after, op, bus)?;

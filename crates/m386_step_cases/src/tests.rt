@@ -3,6 +3,8 @@ mod boundaries;
 mod decoding;
 mod events;
 mod numbers;
+mod opcodes;
+mod ports;
 mod strings;
 mod system;
 mod table_registers;
@@ -333,7 +335,7 @@ fn memory_begins_with_the_sections_of_the_image(rt: HostRuntime) -> Result<(), F
 }
 
 /// Texts of cases: what each shows, by the name that docs/PROVING.md has for it, and how many cases it has.
-static TEXTS: [(&str, &str, usize); 25] = [
+static TEXTS: [(&str, &str, usize); 27] = [
     ("moves_make_their_cycles", MOVES, 7),
     ("calculations_make_their_cycles", CALCULATIONS, 6),
     ("exchange_is_one_locked_group", EXCHANGES, 4),
@@ -403,6 +405,8 @@ static TEXTS: [(&str, &str, usize); 25] = [
         5,
     ),
     ("ldtr_is_loaded_from_each_place", table_registers::LLDTS, 4),
+    ("ports_are_reached_behind_the_last_byte", ports::FREE, 5),
+    ("above_iopl_the_map_decides", ports::BY_THE_MAP, 8),
 ];
 
 #[test]

@@ -1,5 +1,5 @@
-//! The line of a cycle: `r` or `w`, with `+` where it is joined to the one before it, and the role, the part, the address, the enables
-//! and the value, as in the report on a run.
+//! The line of a cycle: `r` or `w`, with `+` where it is joined to the one before it, or `pr` or `pw` on ports; and the role, the part,
+//! the address, the enables and the value, as in the report on a run.
 
 use crate::numbers::{byte, number};
 use m386_base::ask::{Ask, Role, Space};
@@ -43,30 +43,32 @@ fn role_of(word: &str) -> Option<Role> {
     None
 }
 
-/// Whether a cycle writes, and whether it is joined to the one before it, by the first word of its line.
-fn direction_of(word: &str) -> Option<(bool, bool)> {
-    for (name, write, joined) in [
-        ("r", false, false),
-        ("w", true, false),
-        ("r+", false, true),
-        ("w+", true, true),
+/// Where a cycle goes, whether it writes, and whether it is joined to the one before it, by the first word of its line.
+fn direction_of(word: &str) -> Option<(Space, bool, bool)> {
+    for (name, space, write, joined) in [
+        ("r", Space::Memory, false, false),
+        ("w", Space::Memory, true, false),
+        ("r+", Space::Memory, false, true),
+        ("w+", Space::Memory, true, true),
+        ("pr", Space::Port, false, false),
+        ("pw", Space::Port, true, false),
     ] {
         if name == word {
-            return Some((write, joined));
+            return Some((space, write, joined));
         }
     }
     None
 }
 
-/// The cycle of memory that these words say: the first one, and those behind it.
+/// The cycle that these words say: the first one, and those behind it.
 pub fn ask_of(first: &str, words: &str) -> Option<Ask> {
-    let (write, joined) = direction_of(first)?;
+    let (space, write, joined) = direction_of(first)?;
     let (role, words) = words.split_once(' ')?;
     let (part, words) = words.split_once(' ')?;
     let (addr, words) = words.split_once(' ')?;
     let (enables, value) = words.split_once(' ')?;
     Some(Ask {
-        space: Space::Memory,
+        space,
         write,
         joined,
         role: role_of(role)?,

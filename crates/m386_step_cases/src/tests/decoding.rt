@@ -97,43 +97,6 @@ fn bytes_are_refused_at_the_first_that_no_spelling_has(rt: HostRuntime) {
 }
 
 #[test]
-fn an_operation_that_isnt_built_is_fetched_whole(rt: HostRuntime) {
-    let p = bare();
-    let last = at(&p, 0x1003);
-    let cases = [
-        Case {
-            name: "IN EAX, 78h, before a number of its own",
-            before: p,
-            code: &[0xe5, 0x78, 0x56, 0x34, 0x12],
-            cycles: &[fetch(0x1000, 0x3456_78e5)],
-            after: pending(&p, 6, None),
-        },
-        Case {
-            name: "IN AX, 78h, over the end of a group",
-            before: last,
-            code: &[0, 0, 0, 0x66, 0xe5, 0x78],
-            cycles: &[fetch(0x1000, 0x6600_0000), fetch(0x1004, 0x78e5)],
-            after: pending(&last, 6, None),
-        },
-        Case {
-            name: "OUT 78h, EAX, with a prefix of a segment",
-            before: p,
-            code: &[0x3e, 0xe7, 0x78],
-            cycles: &[fetch(0x1000, 0x0078_e73e)],
-            after: pending(&p, 6, None),
-        },
-        Case {
-            name: "OUT 78h, AX",
-            before: p,
-            code: &[0x66, 0xe7, 0x78],
-            cycles: &[fetch(0x1000, 0x0078_e766)],
-            after: pending(&p, 6, None),
-        },
-    ];
-    steps(&rt, &cases);
-}
-
-#[test]
 fn code_is_fetched_through_its_segment(rt: HostRuntime) {
     let p = bare();
     let short = in_segment(&p, 0, 0x1003);
