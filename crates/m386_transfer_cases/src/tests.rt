@@ -24,7 +24,7 @@ fn step_over_values(rt: &impl Abort, case: &Case<'_>) {
 }
 
 /// Texts of cases: what each shows, by the name that docs/PROVING.md has for it, the text before it, and how many cases it has.
-static TEXTS: [(&str, &str, &str, usize); 17] = [
+static TEXTS: [(&str, &str, &str, usize); 18] = [
     (
         "gates_to_the_same_level_keep_the_stack",
         transfers::OUTER,
@@ -99,6 +99,12 @@ static TEXTS: [(&str, &str, &str, usize); 17] = [
         "conforming_code_runs_at_the_old_level",
         transfers::OUTER,
         transfers::CONFORMING,
+        1,
+    ),
+    (
+        "the_longest_step_is_a_call_that_copies",
+        transfers::OUTER,
+        inner_stacks::LONGEST,
         1,
     ),
     (

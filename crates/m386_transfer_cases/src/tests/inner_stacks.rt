@@ -242,6 +242,21 @@ fn up_to_31_parameters_are_copied(rt: HostRuntime) {
     steps_to(&rt, "31", &p, bus, &many, &inside(&p, 0x574));
 }
 
+/// The longest step: CALL FAR [B03h] of fifteen bytes, through a gate that copies 31 doublewords to a stack of level 0. Each of its parts
+/// lies over as many aligned groups as it can: 5 for the bytes, 4 for the pointer, 4 for the gate, 5 for each of the descriptors of
+/// code and stack with its mark, 4 for the new SS and ESP, 2 for each of four pushes, and 4 for each copy.
+pub(crate) const LONGEST: &str = "\
+159 cycles
+ before eip=1003 esp=801 tr=70:303:67:8b:0 gdtr=402:57
+ memory 1003 3e3e3e3e 3e3e3e3e 31dff3e b
+ memory b03 0 4b
+ memory 44a 502000 ec1f ffff cf9a00
+ memory 412 ffff cf9200
+ memory 307 602 10
+ makes 9f
+ after eip=2000 esp=576 cs=50:0:fffff:9a:c ss=10:0:fffff:92:c
+";
+
 /// Stacks that are addressed by SP.
 pub(crate) const HALVES: &str = "\
 # Its parameters come round at 64 KiB, and its ESP is pushed whole.
