@@ -1,13 +1,9 @@
 //! A machine that counts the cycles of its processors, so that they can take turns under one lock.
-ghost use Rattle.std.specs.Prelude.{◌≡◌, ◌<◌, ◌≤◌, [], IfOk};
-ghost use Rattle.m386_image.specs.Format.{IsValid};
-ghost use Rattle.m386_core.specs.Machine.{IsMachine};
+ghost use Rattle.std.specs.Prelude.{◌≡◌, []};
 
 use crate::machine::Machine;
 use m386_base::fault::NoMemory;
-use m386_image::image::Image;
 use m386_turns::turns::{Turn, Turns};
-use std::alloc::Global;
 use std::marker::Model;
 
 /// A machine, and how many cycles each of its processors has made. Contracts see the machine; the type keeps that the numbers are
@@ -30,28 +26,17 @@ impl<'a> Model for Counted<'a> {
 }
 
 impl<'a> Counted<'a> {
-    /// A machine with the image's first `cpus` processors, which make up to `steps` steps each, at most 65,536.
-    pub fn new(
-        alloc: Global,
-        image: &'a Image,
-        cpus: u8,
-        steps: u32,
-    ) -> Result<Counted<'a>, NoMemory>
-        requires valid { IsValid image.now }
-        requires some { 1 ≤ cpus }
-        requires most { cpus ≤ image.now.cpus }
-        requires budget { steps ≤ 65536 }
-        ensures image { IfOk result (λ m. m.image ≡ image.now) }
-        ensures cpus { IfOk result (λ m. m.cpus ≡ cpus) }
-        ensures steps { IfOk result (λ m. m.budget ≡ steps) }
-        ensures empty { IfOk result (λ m. m.log.cycles ≡ []) }
-        ensures kept { IfOk result IsMachine }
+    /// A machine that has made no cycle yet.
+    pub fn new(machine: Machine<'a>) -> Counted<'a>
+        requires { machine.log.cycles ≡ [] }
+        ensures { result ≡ machine.entry }
     {
-        let machine = Machine::new(alloc, image, cpus, steps)?;
-        Ok(Counted {
+        // That there are at most eight processors is what it keeps.
+        machine.cpus();
+        Counted {
             machine,
             made: [0; 8],
-        })
+        }
     }
 
     /// The machine.
