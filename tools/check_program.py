@@ -127,11 +127,11 @@ def statuses(checks):
         (["run", "run"], 2), ([*ROUND, ""], 2), ([*ROUND, "--"], 2), ([*ROUND, "--frob=1"], 2), ([*ROUND, "run"], 2), ([*ROUND, "--steps"], 2), ([*ROUND, "--steps", "3"], 2),
         ([*ROUND, "-steps=3"], 2), (["run", "--steps=x", "--frob=1"], 2), (["run", "--order=seed", "--seed=1", "--seed=1"], 2), (["run", "--steps=x", "--order=round"], 3), ([*ROUND, "--Steps=3"], 2), ([*ROUND, "--order=round"], 2), ([*ROUND, "--cpus=1", "--cpus=1"], 2),
         ([*ROUND, "--seed=1", "--seed=1"], 2), ([*ROUND, "--steps=1", "--steps=1"], 2),
-        (["run"], 3), (["run", "--steps=3"], 3), (["run", "--order="], 3), (["run", "--order=Round"], 3), (["run", "--order=rounds"], 3),
+        (["run", "--seed=x"], 3), (["run", "--steps=x"], 3), (["run", "--order=thread"], 3), (["run", "--order=Threads"], 3), (["run", "--order="], 3), (["run", "--order=Round"], 3), (["run", "--order=rounds"], 3),
         (["run", "--order=seeds"], 3), (["run", "--order=list"], 3), ([*ROUND, "--steps="], 3), ([*ROUND, "--steps=x"], 3), ([*ROUND, "--steps=-1"], 3),
         ([*ROUND, "--steps=+1"], 3), ([*ROUND, "--steps=1 "], 3), ([*ROUND, "--steps= 1"], 3), ([*ROUND, "--steps=0x1"], 3), ([*ROUND, "--steps=1."], 3),
         ([*ROUND, "--cpus="], 3), ([*ROUND, "--cpus=0"], 3), ([*ROUND, "--seed="], 3), ([*ROUND, "--seed=x"], 3), ([*ROUND, "--steps=/"], 3), ([*ROUND, "--steps=:"], 3),
-        ([*ROUND, "--cpus=2"], 4), ([*ROUND, "--cpus=8"], 4),
+        ([*ROUND, "--cpus=2"], 4), ([*ROUND, "--cpus=8"], 4), (["run", "--cpus=2"], 4), (["run", "--order=threads", "--cpus=2"], 4),
     ]:
         checks.call(words, one, 2, USAGE[kind])
     for words in [[b"\xff"], [b"run", b"--order=\xc3\x28"], [b"run", b"--order=round", b"--steps=\xed\xa0\x80"]]:
@@ -162,6 +162,7 @@ def limits(checks):
         checks.run(words, eight)
     for words in [["--cpus=8", "--steps=32769"], ["--steps=32769"], ["--cpus=5", "--steps=65536"], ["--cpus=5", "--steps=52429"], ["--cpus=7", "--steps=37450"], ["--steps=65536"]]:
         checks.call([*ROUND, *words], eight, 2, USAGE[5])
+    checks.call(["run", "--steps=65536"], eight, 2, USAGE[5])
     checks.want(ends(checks.run([], image(LOOP)))[0][4] == "1000", "1,000 steps where no word bounds them")
     checks.want([len(ends(checks.run(["--steps=1", *words], eight))) for words in ([], ["--cpus=3"])] == [8, 3], "all processors, and the first three")
     for memory, taken in [(0, False), (4095, False), (4096, True), (4097, False), (8192, True), (MOST_MEMORY, True), (MOST_MEMORY + 4096, False), (2**32 - 4096, False)]:
@@ -215,6 +216,20 @@ def first_drawn(checks):
                          (["--cpus=1", "--order=seed", "--steps=1"], ["cpus 1", "c 0 "])]:
         lines = checks.call(["run", *words], image(LOOP, cpus=2), 0).splitlines()
         checks.want(lines[1].endswith(begin[0]) and lines[2].startswith(begin[1]), f"{words}: {lines[1:3]}")
+
+
+def threads(checks):
+    """Processors in threads, which is what no order means: each makes its cycles, whoever comes first, and one alone makes the run that it makes in turn."""
+    for words in (["run"], ["run", "--order=threads"], ["run", "--seed=3"]):
+        one = checks.call([*words, "--steps=3"], image(), 0)
+        checks.want(one == checks.call([*ROUND, "--steps=3"], image(), 0), f"one processor alone: {words}")
+        for cpus in (2, 3, 8):
+            lines = checks.call([*words, "--steps=50"], image(LOOP, cpus=cpus), 0).splitlines()
+            made = sorted(int(c[1]) for c in cycles(lines))
+            checks.want(made == sorted(list(range(cpus)) * 50) and lines[-1] == "clean", f"{cpus} processors by {words}")
+    # Each adds to one byte under LOCK, four times: no group is split, so nothing is lost.
+    lines = checks.call(["run", "--steps=4"], image(bytes.fromhex("f0fe0500200000" * 4), cpus=8), 0).splitlines()
+    checks.want([c[-1] for c in cycles(lines) if c[5] == "data" and c[3] == "w"] == [f"{n:08x}" for n in range(1, 33)], "32 additions under LOCK")
 
 
 def ample(checks):
@@ -420,7 +435,7 @@ def verdicts(checks):
 
 def main():
     checks = Checks(sys.argv[1])
-    for part in (statuses, reports, limits, causes, orders, first_drawn, ample, plans, switches, starts, verdicts):
+    for part in (statuses, reports, limits, causes, orders, first_drawn, threads, ample, plans, switches, starts, verdicts):
         part(checks)
     print(f"{sys.argv[1]}: {checks.made} checks of the program, {checks.wrong} wrong")
     return 1 if checks.wrong else 0

@@ -1,18 +1,21 @@
 #!/usr/bin/env python3
 """Judges reports of runs by the image and the report alone: each read gives what was written last, no locked group is split, each cycle
-is by a processor that runs and within its group of four bytes, and there is one line for each processor.
+is by a processor that runs and within its group of four bytes, there is one line for each processor, and no two processors end in one
+task. Where they fight for tasks the verdict has to be clean.
 
 usage: judge_runs.py PROGRAM RUNS [WORD..]
 
-It calls PROGRAM so many times, on images whose two to eight processors fight for one lock and count under it. In a WORD `{n}` is the number
-of the run; with no WORD each run draws its order from that number. The first faults of each report are printed, and the exit status is 1
-where there is one.
+It calls PROGRAM so many times, on images whose two to eight processors fight: for one lock, under which they count; for one task, by CALL
+and back by IRET; and for all tasks that there are, one more than processors, by JMP from one to the next. In a WORD `{n}` is the number of
+the run; with no WORD each run draws its order from that number, and `--order=threads` runs them in threads. The first faults of each
+report are printed, with how many were told by their kind of image, and the exit status is 1 where there is one.
 """
 import re
 import subprocess
 import sys
+from collections import Counter
 
-from check_program import image
+from check_program import image, tss
 
 CYCLE = re.compile(r"c ([0-7]) ([mp]) ([rw]) ([+.]) ([a-z]+) (\d\d) ([0-9a-f]{8}) ([0-9a-f]) ([0-9a-f]{8})")
 MEMORY, PORTS = 16384, 65536
@@ -25,6 +28,51 @@ FIGHT = bytes.fromhex(
     "c7050020000000000000"  # MOV dword [2000h], 0
     "ebdf"  # JMP again
 )
+
+
+ONE_TASK = 0x58  # the task that nobody starts in
+TO = (0x9A).to_bytes(1, "little"), (0xEA).to_bytes(1, "little")  # CALL, JMP
+
+
+def far(opcode, selector):
+    """A far CALL or JMP, of seven bytes, to a task."""
+    return opcode + bytes(4) + selector.to_bytes(2, "little")
+
+
+def fight_for_tasks(cpus, code_of):
+    """An image whose processors start in tasks of their own, 18h and up, each at the code for its selector; there is one task more. The
+    handler of #GP leaves out the seven bytes of the transfer that found its task busy."""
+    tasks = [*range(0x18, 0x18 + 8 * cpus, 8), ONE_TASK]
+    wide = lambda access: bytes.fromhex("ffff000000") + bytes([access]) + bytes.fromhex("cf00")
+    table = bytearray(8) + wide(0x9A) + wide(0x92) + bytes(0x60 - 0x18)
+    more = [(0x2068, bytes.fromhex("00480800008e0000")), (0x4800, bytes.fromhex("8344240407" "83c404" "cf"))]  # ADD [ESP+4], 7; ADD ESP, 4; IRET
+    for k, selector in enumerate(tasks):
+        table[selector : selector + 8] = tss(0x3000 + 0x80 * k)
+        fields = {0x20: 0x4000 + 0x80 * k, 0x24: 2, 0x38: 0x6000 + 0x100 * k, 0x4C: 8, 0x50: 0x10, 0x54: 0x10}
+        state = b"".join(fields.get(at, 0).to_bytes(4, "little") for at in range(0, 104, 4))
+        more += [(0x3000 + 0x80 * k, state), (0x4000 + 0x80 * k, code_of(selector, tasks))]
+    data = bytearray(image(bytes(table), cpus=cpus, memory=MEMORY * 2, gdt=(0x1000, len(table) - 1), idt=(0x2000, 0x6F), tasks=(1 << cpus) - 1, more=sorted(more)))
+    for cpu in range(cpus):
+        data[32 + 4 * cpu : 36 + 4 * cpu] = tasks[cpu].to_bytes(4, "little")
+    return bytes(data)
+
+
+def by_call(selector, _tasks):
+    """CALL to the one task, for ever; the one task is left by IRET, and begins again when it is called again."""
+    return bytes.fromhex("cf" "ebfd") if selector == ONE_TASK else far(TO[0], ONE_TASK) + bytes.fromhex("ebf7")
+
+
+def by_jump(selector, tasks):
+    """JMP to each other task, one after another, for ever."""
+    jumps = b"".join(far(TO[1], task) for task in tasks if task != selector)
+    return jumps + bytes([0xEB, 256 - len(jumps) - 2])
+
+
+FIGHTS = {
+    "a lock": lambda cpus: image(FIGHT, cpus=cpus, memory=MEMORY),
+    "a task": lambda cpus: fight_for_tasks(cpus, by_call),
+    "all tasks": lambda cpus: fight_for_tasks(cpus, by_jump),
+}
 
 
 def first_bytes(data):
@@ -77,27 +125,36 @@ def judge(data, cpus, text):
         if line.startswith("c "):
             wrong += [f"line {number}: {fault}: {line}" for fault in judge_cycle(line, before, spaces, cpus)]
             before, cycles = line.split()[1], cycles + 1
-    if [line.split()[1] for line in lines if line.startswith("p ")] != [str(cpu) for cpu in range(cpus)]:
+    ends = [line.split() for line in lines if line.startswith("p ")]
+    if [words[1] for words in ends] != [str(cpu) for cpu in range(cpus)]:
         wrong.append("not one line for each processor")
+    held = [words[words.index("tr") + 1] for words in ends if "tr" in words]
+    held = [task for task in held if task != "0000"]
+    if len(set(held)) != len(held):
+        wrong.append(f"two processors in one task: {held}")
     return wrong, cycles
 
 
 def main():
     program, runs = sys.argv[1], int(sys.argv[2])
     words = sys.argv[3:] or ["--order=seed", "--seed={n}"]
-    faults = cycles = 0
+    faults, told = 0, Counter()
     for n in range(runs):
-        cpus = 2 + n % 7
-        data = image(FIGHT, cpus=cpus, memory=MEMORY)
+        cpus, kind = 2 + n % 7, list(FIGHTS)[n // 7 % 3]
+        data = FIGHTS[kind](cpus)
         call = [program, "run", "--steps=40", *(word.replace("{n}", str(n)) for word in words)]
         ended = subprocess.run(call, input=data, capture_output=True, timeout=120)
-        wrong, made = judge(data, cpus, ended.stdout.decode())
+        text = ended.stdout.decode()
+        wrong, made = judge(data, cpus, text)
         if ended.returncode:
             wrong.insert(0, f"status {ended.returncode} {ended.stderr.decode()!r}")
+        elif kind != "a lock" and text.splitlines()[-1] != "clean":
+            wrong.append(text.splitlines()[-1])
         for fault in wrong[:3]:
-            print(f"run {n}: {fault}")
-        faults, cycles = faults + len(wrong), cycles + made
-    print(f"{runs} runs, {cycles} cycles, {faults} faults")
+            print(f"run {n}, {cpus} fight for {kind}: {fault}")
+        faults += len(wrong)
+        told.update({"cycles": made, "claims": sum(text.count(f" {role} ") for role in ("claimjmp", "claimcall")), "#GP": text.count(" push "), f"fights for {kind}": 1})
+    print(f"{runs} runs, {dict(told)}, {faults} faults")
     sys.exit(faults > 0)
 
 

@@ -1,5 +1,5 @@
 -- What follows from when each status comes.
-use Rattle.std.proofs.Common.{◌≡◌, ℕ, ◌<◌, ◌≤◌, inl, inr, refl, sym, ◌∙◌, ap, arith, List, [], ◌++◌, length, append-nil, length-append, cond, eqb, Option, Some, None, Ok, Err}
+use Rattle.std.proofs.Common.{◌≡◌, ℕ, ◌<◌, ◌≤◌, inl, inr, refl, sym, ◌∙◌, ap, arith, List, [], ◌++◌, length, append-nil, length-append, cond, eqb, Option, Some, None, Result, Ok, Err}
 use Rattle.m386_base.specs.Bus.{Rose}
 use Rattle.m386_edge.specs.Edge.{Gave, given_back}
 use Rattle.m386_image.proofs.Judging.{image_same, image_no_fault}
@@ -10,31 +10,30 @@ use Rattle.m386_image.specs.declared.fault.ImageFault.TheVariants.{ShortHeader, 
 use Rattle.m386_image.specs.declared.fault.ImageFault.TheVariants as faults
 use Rattle.m386_image.specs.declared.image.Image.{Image as ImageData}
 use Rattle.m386.specs.Top.{Edges, IsAnswer, IsReport, OrMemory, SourceGave, most_bytes, refusal}
-use Rattle.m386.specs.Words.{words_mean}
 use Rattle.m386.specs.declared.words.Asked.{Asked}
 use Rattle.m386.specs.declared.status.UsageKind.{UsageKind}
 use Rattle.m386.specs.declared.status.Status.{Status}
 use Rattle.m386.specs.declared.status.Status.TheVariants.{Done, Memory, Usage, ReadFault, WriteFault, Image, TooLong}
 
 -- words that are refused aren't valid
-pub not_both : {A : Type 0} (words : List (List ℕ)) (kind : UsageKind) (asked : Asked) → words_mean words ≡ Err kind → words_mean words ≡ Ok asked → A
-not_both words kind asked e o = let d : Err kind ≡ Ok asked = sym e ∙ o in cc
+pub not_both : {A : Type 0} (meant : Result Asked UsageKind) (kind : UsageKind) (asked : Asked) → meant ≡ Err kind → meant ≡ Ok asked → A
+not_both meant kind asked e o = let d : Err kind ≡ Ok asked = sym e ∙ o in cc
 
 -- words ask for one run
-one_asked : (words : List (List ℕ)) (a b : Asked) → words_mean words ≡ Ok a → words_mean words ≡ Ok b → a ≡ b
-one_asked words a b x y = let d : Ok a ≡ Ok b = sym x ∙ y in cc
+one_asked : (meant : Result Asked UsageKind) (a b : Asked) → meant ≡ Ok a → meant ≡ Ok b → a ≡ b
+one_asked meant a b x y = let d : Ok a ≡ Ok b = sym x ∙ y in cc
 
-pub answer_usage : (words : List (List ℕ)) (old new : Edges) (status : Status) (kind : UsageKind) → IsAnswer words old new status → words_mean words ≡ Err kind → OrMemory status (Usage kind)
-answer_usage words old new Done kind h e = not_both words kind h.1.asked e h.1.words_mean_it
-answer_usage words old new Memory kind h e = inr refl
-answer_usage words old new (Usage k) kind (inl h, u) e =
+pub answer_usage : (meant : Result Asked UsageKind) (old new : Edges) (status : Status) (kind : UsageKind) → IsAnswer meant old new status → meant ≡ Err kind → OrMemory status (Usage kind)
+answer_usage meant old new Done kind h e = not_both meant kind h.1.asked e h.1.words_mean_it
+answer_usage meant old new Memory kind h e = inr refl
+answer_usage meant old new (Usage k) kind (inl h, u) e =
     let t : k ≡ kind = cc in
     inl (ap Usage t)
-answer_usage words old new (Usage k) kind (inr h, u) e = not_both words kind h.asked e h.words_mean_it
-answer_usage words old new ReadFault kind h e = not_both words kind h.0.0 e h.0.1
-answer_usage words old new WriteFault kind h e = not_both words kind h.1.asked e h.1.words_mean_it
-answer_usage words old new (Image f) kind h e = not_both words kind h.0.0 e h.0.1
-answer_usage words old new TooLong kind h e = not_both words kind h.0.0 e h.0.1
+answer_usage meant old new (Usage k) kind (inr h, u) e = not_both meant kind h.asked e h.words_mean_it
+answer_usage meant old new ReadFault kind h e = not_both meant kind h.0.0 e h.0.1
+answer_usage meant old new WriteFault kind h e = not_both meant kind h.1.asked e h.1.words_mean_it
+answer_usage meant old new (Image f) kind h e = not_both meant kind h.0.0 e h.0.1
+answer_usage meant old new TooLong kind h e = not_both meant kind h.0.0 e h.0.1
 
 -- the bytes that a source gave are at the front of those that it told
 gave_front : (old new : Option (List ℕ)) (bytes told : List ℕ) → Gave old new bytes → old ≡ Some told → (rest : List ℕ) × (told ≡ bytes ++ rest) × (new ≡ Some rest)
@@ -89,84 +88,84 @@ one_fault bytes f g a b =
 not_faulty : {A : Type 0} (bytes : List ℕ) (image : ImageData) (fault : ImageFault) → ImageOf bytes image → FirstFault bytes fault → A
 not_faulty bytes image fault i f = absurd (image_no_fault bytes image i fault f.stands)
 
--- what was read and asked for is what was told and meant
-pub met : (words : List (List ℕ)) (old new : Edges) (a b : Asked) (bytes told : List ℕ) (i j : ImageData) → words_mean words ≡ Ok a → words_mean words ≡ Ok b → SourceGave old new bytes → old.left ≡ Some told → ImageOf bytes i → ImageOf told j → refusal i a ≡ refusal j b
-met words old new a b bytes told i j x y r l m n =
+-- what was read and asked for is what was told and words
+pub met : (meant : Result Asked UsageKind) (old new : Edges) (a b : Asked) (bytes told : List ℕ) (i j : ImageData) → meant ≡ Ok a → meant ≡ Ok b → SourceGave old new bytes → old.left ≡ Some told → ImageOf bytes i → ImageOf told j → refusal i a ≡ refusal j b
+met meant old new a b bytes told i j x y r l m n =
     let same : bytes ≡ told = gave_all old new bytes told r l in
     let one : i ≡ j = image_same told i j (rw same at m) n in
-    let asked : a ≡ b = one_asked words a b x y in
+    let asked : a ≡ b = one_asked meant a b x y in
     rw (one, asked) refl
 
-pub answer_complete : (words : List (List ℕ)) (old new : Edges) (status : Status) → IsAnswer words old new status → (asked : Asked) (bytes : List ℕ) (image : ImageData) → words_mean words ≡ Ok asked → old.left ≡ Some bytes → length bytes ≤ most_bytes → ImageOf bytes image → refusal image asked ≡ None → ¬ Rose old.reads_failed new.reads_failed → ¬ Rose old.writes_failed new.writes_failed → OrMemory status Done
-answer_complete words old new Done h asked bytes image w l short i f r k = inl refl
-answer_complete words old new Memory h asked bytes image w l short i f r k = inr refl
-answer_complete words old new (Usage kind) (inl h, u) asked bytes image w l short i f r k = not_both words kind asked h.0 w
-answer_complete words old new (Usage kind) (inr h, u) asked bytes image w l short i f r k =
-    let d : Some kind ≡ None = sym h.refused ∙ met words old new h.asked asked h.bytes bytes h.image image h.words_mean_it w h.was_read l h.is_image i ∙ f in
+pub answer_complete : (meant : Result Asked UsageKind) (old new : Edges) (status : Status) → IsAnswer meant old new status → (asked : Asked) (bytes : List ℕ) (image : ImageData) → meant ≡ Ok asked → old.left ≡ Some bytes → length bytes ≤ most_bytes → ImageOf bytes image → refusal image asked ≡ None → ¬ Rose old.reads_failed new.reads_failed → ¬ Rose old.writes_failed new.writes_failed → OrMemory status Done
+answer_complete meant old new Done h asked bytes image w l short i f r k = inl refl
+answer_complete meant old new Memory h asked bytes image w l short i f r k = inr refl
+answer_complete meant old new (Usage kind) (inl h, u) asked bytes image w l short i f r k = not_both meant kind asked h.0 w
+answer_complete meant old new (Usage kind) (inr h, u) asked bytes image w l short i f r k =
+    let d : Some kind ≡ None = sym h.refused ∙ met meant old new h.asked asked h.bytes bytes h.image image h.words_mean_it w h.was_read l h.is_image i ∙ f in
     cc
-answer_complete words old new ReadFault h asked bytes image w l short i f r k = absurd (r h.1)
-answer_complete words old new WriteFault h asked bytes image w l short i f r k = absurd (k h.3)
-answer_complete words old new (Image fault) h asked bytes image w l short i f r k =
+answer_complete meant old new ReadFault h asked bytes image w l short i f r k = absurd (r h.1)
+answer_complete meant old new WriteFault h asked bytes image w l short i f r k = absurd (k h.3)
+answer_complete meant old new (Image fault) h asked bytes image w l short i f r k =
     let same : h.1.0 ≡ bytes = gave_all old new h.1.0 bytes h.1.1 l in
     not_faulty bytes image fault i (rw same at h.1.2)
-answer_complete words old new TooLong h asked bytes image w l short i f r k =
+answer_complete meant old new TooLong h asked bytes image w l short i f r k =
     absurd (omega (arith, gave_short old.left new.left h.1.0 bytes h.1.2 l, h.1.1))
 
 -- what an image refuses isn't run
-not_refused : {A : Type 0} (words : List (List ℕ)) (old new : Edges) (text : List ℕ) (asked : Asked) (bytes : List ℕ) (image : ImageData) (kind : UsageKind) → IsReport words old new text → words_mean words ≡ Ok asked → old.left ≡ Some bytes → ImageOf bytes image → refusal image asked ≡ Some kind → A
-not_refused words old new text asked bytes image kind h w l i f =
-    let d : None ≡ Some kind = sym h.run_text.allowed ∙ met words old new h.asked asked h.bytes bytes h.image image h.words_mean_it w h.was_read l h.is_image i ∙ f in
+not_refused : {A : Type 0} (meant : Result Asked UsageKind) (old new : Edges) (text : List ℕ) (asked : Asked) (bytes : List ℕ) (image : ImageData) (kind : UsageKind) → IsReport meant old new text → meant ≡ Ok asked → old.left ≡ Some bytes → ImageOf bytes image → refusal image asked ≡ Some kind → A
+not_refused meant old new text asked bytes image kind h w l i f =
+    let d : None ≡ Some kind = sym h.run_text.allowed ∙ met meant old new h.asked asked h.bytes bytes h.image image h.words_mean_it w h.was_read l h.is_image i ∙ f in
     cc
 
-pub answer_excess : (words : List (List ℕ)) (old new : Edges) (status : Status) → IsAnswer words old new status → (asked : Asked) (bytes : List ℕ) (image : ImageData) (kind : UsageKind) → words_mean words ≡ Ok asked → old.left ≡ Some bytes → length bytes ≤ most_bytes → ImageOf bytes image → refusal image asked ≡ Some kind → ¬ Rose old.reads_failed new.reads_failed → OrMemory status (Usage kind)
-answer_excess words old new Done h asked bytes image kind w l short i f r = not_refused words old new h.0 asked bytes image kind h.1 w l i f
-answer_excess words old new Memory h asked bytes image kind w l short i f r = inr refl
-answer_excess words old new (Usage k) (inl h, u) asked bytes image kind w l short i f r = not_both words k asked h.0 w
-answer_excess words old new (Usage k) (inr h, u) asked bytes image kind w l short i f r =
-    let d : Some k ≡ Some kind = sym h.refused ∙ met words old new h.asked asked h.bytes bytes h.image image h.words_mean_it w h.was_read l h.is_image i ∙ f in
+pub answer_excess : (meant : Result Asked UsageKind) (old new : Edges) (status : Status) → IsAnswer meant old new status → (asked : Asked) (bytes : List ℕ) (image : ImageData) (kind : UsageKind) → meant ≡ Ok asked → old.left ≡ Some bytes → length bytes ≤ most_bytes → ImageOf bytes image → refusal image asked ≡ Some kind → ¬ Rose old.reads_failed new.reads_failed → OrMemory status (Usage kind)
+answer_excess meant old new Done h asked bytes image kind w l short i f r = not_refused meant old new h.0 asked bytes image kind h.1 w l i f
+answer_excess meant old new Memory h asked bytes image kind w l short i f r = inr refl
+answer_excess meant old new (Usage k) (inl h, u) asked bytes image kind w l short i f r = not_both meant k asked h.0 w
+answer_excess meant old new (Usage k) (inr h, u) asked bytes image kind w l short i f r =
+    let d : Some k ≡ Some kind = sym h.refused ∙ met meant old new h.asked asked h.bytes bytes h.image image h.words_mean_it w h.was_read l h.is_image i ∙ f in
     let t : k ≡ kind = cc in
     inl (ap Usage t)
-answer_excess words old new ReadFault h asked bytes image kind w l short i f r = absurd (r h.1)
-answer_excess words old new WriteFault h asked bytes image kind w l short i f r = not_refused words old new h.0 asked bytes image kind h.1 w l i f
-answer_excess words old new (Image fault) h asked bytes image kind w l short i f r =
+answer_excess meant old new ReadFault h asked bytes image kind w l short i f r = absurd (r h.1)
+answer_excess meant old new WriteFault h asked bytes image kind w l short i f r = not_refused meant old new h.0 asked bytes image kind h.1 w l i f
+answer_excess meant old new (Image fault) h asked bytes image kind w l short i f r =
     let same : h.1.0 ≡ bytes = gave_all old new h.1.0 bytes h.1.1 l in
     not_faulty bytes image fault i (rw same at h.1.2)
-answer_excess words old new TooLong h asked bytes image kind w l short i f r =
+answer_excess meant old new TooLong h asked bytes image kind w l short i f r =
     absurd (omega (arith, gave_short old.left new.left h.1.0 bytes h.1.2 l, h.1.1))
 
 -- bytes with a fault aren't run
-pub not_run : {A : Type 0} (words : List (List ℕ)) (old new : Edges) (text bytes : List ℕ) (fault : ImageFault) → IsReport words old new text → old.left ≡ Some bytes → FirstFault bytes fault → A
-not_run words old new text bytes fault h l f =
+pub not_run : {A : Type 0} (meant : Result Asked UsageKind) (old new : Edges) (text bytes : List ℕ) (fault : ImageFault) → IsReport meant old new text → old.left ≡ Some bytes → FirstFault bytes fault → A
+not_run meant old new text bytes fault h l f =
     let same : h.bytes ≡ bytes = gave_all old new h.bytes bytes h.was_read l in
     not_faulty bytes h.image fault (rw same at h.is_image) f
 
-pub answer_image : (words : List (List ℕ)) (old new : Edges) (status : Status) → IsAnswer words old new status → (asked : Asked) (bytes : List ℕ) (fault : ImageFault) → words_mean words ≡ Ok asked → old.left ≡ Some bytes → length bytes ≤ most_bytes → FirstFault bytes fault → ¬ Rose old.reads_failed new.reads_failed → OrMemory status (Image fault)
-answer_image words old new Done h asked bytes fault w l short f r = not_run words old new h.0 bytes fault h.1 l f
-answer_image words old new Memory h asked bytes fault w l short f r = inr refl
-answer_image words old new (Usage kind) (inl h, u) asked bytes fault w l short f r = not_both words kind asked h.0 w
-answer_image words old new (Usage kind) (inr h, u) asked bytes fault w l short f r =
+pub answer_image : (meant : Result Asked UsageKind) (old new : Edges) (status : Status) → IsAnswer meant old new status → (asked : Asked) (bytes : List ℕ) (fault : ImageFault) → meant ≡ Ok asked → old.left ≡ Some bytes → length bytes ≤ most_bytes → FirstFault bytes fault → ¬ Rose old.reads_failed new.reads_failed → OrMemory status (Image fault)
+answer_image meant old new Done h asked bytes fault w l short f r = not_run meant old new h.0 bytes fault h.1 l f
+answer_image meant old new Memory h asked bytes fault w l short f r = inr refl
+answer_image meant old new (Usage kind) (inl h, u) asked bytes fault w l short f r = not_both meant kind asked h.0 w
+answer_image meant old new (Usage kind) (inr h, u) asked bytes fault w l short f r =
     let same : h.bytes ≡ bytes = gave_all old new h.bytes bytes h.was_read l in
     not_faulty bytes h.image fault (rw same at h.is_image) f
-answer_image words old new ReadFault h asked bytes fault w l short f r = absurd (r h.1)
-answer_image words old new WriteFault h asked bytes fault w l short f r = not_run words old new h.0 bytes fault h.1 l f
-answer_image words old new (Image other) h asked bytes fault w l short f r =
+answer_image meant old new ReadFault h asked bytes fault w l short f r = absurd (r h.1)
+answer_image meant old new WriteFault h asked bytes fault w l short f r = not_run meant old new h.0 bytes fault h.1 l f
+answer_image meant old new (Image other) h asked bytes fault w l short f r =
     let same : h.1.0 ≡ bytes = gave_all old new h.1.0 bytes h.1.1 l in
     inl (ap Image (one_fault bytes other fault (rw same at h.1.2) f))
-answer_image words old new TooLong h asked bytes fault w l short f r =
+answer_image meant old new TooLong h asked bytes fault w l short f r =
     absurd (omega (arith, gave_short old.left new.left h.1.0 bytes h.1.2 l, h.1.1))
 
 -- what was read isn't too long
 not_long : {A : Type 0} (old new : Edges) (bytes told : List ℕ) → SourceGave old new bytes → old.left ≡ Some told → most_bytes < length told → A
 not_long old new bytes told g l long = absurd (omega (arith, g.within, ap length (gave_all old new bytes told g l), long))
 
-pub answer_too_long : (words : List (List ℕ)) (old new : Edges) (status : Status) → IsAnswer words old new status → (asked : Asked) (bytes : List ℕ) → words_mean words ≡ Ok asked → old.left ≡ Some bytes → most_bytes < length bytes → ¬ Rose old.reads_failed new.reads_failed → OrMemory status TooLong
-answer_too_long words old new Done h asked bytes w l long r = not_long old new h.1.bytes bytes h.1.was_read l long
-answer_too_long words old new Memory h asked bytes w l long r = inr refl
-answer_too_long words old new (Usage kind) (inl h, u) asked bytes w l long r = not_both words kind asked h.0 w
-answer_too_long words old new (Usage kind) (inr h, u) asked bytes w l long r = not_long old new h.bytes bytes h.was_read l long
-answer_too_long words old new ReadFault h asked bytes w l long r = absurd (r h.1)
-answer_too_long words old new WriteFault h asked bytes w l long r = not_long old new h.1.bytes bytes h.1.was_read l long
-answer_too_long words old new (Image fault) h asked bytes w l long r = not_long old new h.1.0 bytes h.1.1 l long
-answer_too_long words old new TooLong h asked bytes w l long r = inl refl
+pub answer_too_long : (meant : Result Asked UsageKind) (old new : Edges) (status : Status) → IsAnswer meant old new status → (asked : Asked) (bytes : List ℕ) → meant ≡ Ok asked → old.left ≡ Some bytes → most_bytes < length bytes → ¬ Rose old.reads_failed new.reads_failed → OrMemory status TooLong
+answer_too_long meant old new Done h asked bytes w l long r = not_long old new h.1.bytes bytes h.1.was_read l long
+answer_too_long meant old new Memory h asked bytes w l long r = inr refl
+answer_too_long meant old new (Usage kind) (inl h, u) asked bytes w l long r = not_both meant kind asked h.0 w
+answer_too_long meant old new (Usage kind) (inr h, u) asked bytes w l long r = not_long old new h.bytes bytes h.was_read l long
+answer_too_long meant old new ReadFault h asked bytes w l long r = absurd (r h.1)
+answer_too_long meant old new WriteFault h asked bytes w l long r = not_long old new h.1.bytes bytes h.1.was_read l long
+answer_too_long meant old new (Image fault) h asked bytes w l long r = not_long old new h.1.0 bytes h.1.1 l long
+answer_too_long meant old new TooLong h asked bytes w l long r = inl refl
 
 pub ruleset answers = (answer_usage, answer_complete)

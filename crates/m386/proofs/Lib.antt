@@ -1,4 +1,6 @@
 pub mod Allowed
 pub mod Answers
+pub mod Images
 pub mod Numbers
 pub mod Options
+pub mod Runs

@@ -1,5 +1,5 @@
 -- What a call of the program answers, and what it leaves of its source and its sinks.
-use Rattle.std.specs.Prelude.{◌≡◌, ℕ, ◌+◌, ◌*◌, ◌<◌, ◌≤◌, ◌⊎◌, nat_lt, if◌then◌else◌, Ok, Err, Option, Some, None, List, length}
+use Rattle.std.specs.Prelude.{◌≡◌, ℕ, ◌+◌, ◌*◌, ◌<◌, ◌≤◌, ◌⊎◌, nat_lt, if◌then◌else◌, Result, Ok, Err, Option, Some, None, List, length}
 use Rattle.m386_base.specs.Bus.{Rose}
 use Rattle.m386_base.specs.declared.ask.Cycle.{Cycle}
 use Rattle.m386_book.specs.Verdict.{IsFirstFailure}
@@ -16,8 +16,9 @@ use Rattle.m386_state.specs.declared.proc.Proc.{Proc}
 use Rattle.m386_step.specs.Run.{Run}
 use Rattle.m386_trace.specs.Report.{report_text}
 use Rattle.m386.specs.Status.{status_line}
-use Rattle.m386.specs.Words.{words_mean}
 use Rattle.m386.specs.declared.words.Asked.{Asked}
+use Rattle.m386.specs.declared.words.Schedule.{Schedule}
+use Rattle.m386.specs.declared.words.Schedule.TheVariants.{Threads, Named}
 use Rattle.m386.specs.declared.status.UsageKind.{UsageKind}
 use Rattle.m386.specs.declared.status.UsageKind.TheVariants.{Cpus, Budget}
 use Rattle.m386.specs.declared.status.Status.{Status}
@@ -59,15 +60,25 @@ pub record Edges : Type 0 where
 abbrev pub at_edges : Option (List ℕ) → ℕ → Option (List ℕ) → ℕ → Edges
 at_edges left reads_failed held writes_failed = record { left = left; reads_failed = reads_failed; held = held; writes_failed = writes_failed }
 
+-- the source alone
+abbrev pub at_source : Option (List ℕ) → ℕ → Edges
+at_source left reads_failed = at_edges left reads_failed None 0
+
 -- the output alone
 abbrev pub at_out : Option (List ℕ) → ℕ → Edges
 at_out held writes_failed = at_edges None 0 held writes_failed
+
+-- The cycles are in the order that is asked for. Threads have none: whichever of them comes first goes on.
+-- Own choice: docs/DECISIONS.md, "Threads"
+abbrev pub IsScheduled : ImageRecord → ℕ → ℕ → Schedule → List Cycle → Type 0
+IsScheduled image count steps Threads history = Unit {0}
+IsScheduled image count steps (Named order) history = InOrder image count steps order history
 
 -- The history and the ends are of a run of the image with as many processors and steps as are asked for, and the cycles
 -- are in the order that is asked for.
 pub record IsRunOf (image : ImageRecord) (asked : Asked) (history : List Cycle) (ends : List (ProcEnd Proc)) : Type 0 where
   pub run : Run image (count_of image asked.cpus) asked.steps history ends
-  pub in_order : InOrder image (count_of image asked.cpus) asked.steps asked.order history
+  pub in_order : IsScheduled image (count_of image asked.cpus) asked.steps asked.schedule history
 
 -- The text is the report of the run of an image: the history and the ends that it prints are those of the run, in which each attempt at
 -- a task switch ends whole or at the first row of the check table that fails, and the verdict is its first failure.
@@ -87,10 +98,10 @@ pub record SourceGave (old new : Edges) (bytes : List ℕ) : Type 0 where
   pub gave : Gave old.left new.left bytes
   pub emptied : IsEmptied new.left
 
--- The text is the report of the run that the words and the bytes of the source ask for.
-pub record IsReport (words : List (List ℕ)) (old new : Edges) (text : List ℕ) : Type 0 where
+-- The text is the report of the run that the words, which mean this, and the bytes of the source ask for.
+pub record IsReport (meant : Result Asked UsageKind) (old new : Edges) (text : List ℕ) : Type 0 where
   pub asked : Asked
-  pub words_mean_it : words_mean words ≡ Ok asked
+  pub words_mean_it : meant ≡ Ok asked
   pub bytes : List ℕ
   pub was_read : SourceGave old new bytes
   pub image : ImageRecord
@@ -98,13 +109,13 @@ pub record IsReport (words : List (List ℕ)) (old new : Edges) (text : List ℕ
   pub run_text : IsRunText image asked text
 
 -- the words ask for a run
-abbrev pub AskToRun : List (List ℕ) → Type 0
-AskToRun words = (asked : Asked) × (words_mean words ≡ Ok asked)
+abbrev pub AskToRun : Result Asked UsageKind → Type 0
+AskToRun meant = (asked : Asked) × (meant ≡ Ok asked)
 
 -- The words ask for a run that the image in the source refuses.
-pub record ImageRefuses (words : List (List ℕ)) (old new : Edges) (kind : UsageKind) : Type 0 where
+pub record ImageRefuses (meant : Result Asked UsageKind) (old new : Edges) (kind : UsageKind) : Type 0 where
   pub asked : Asked
-  pub words_mean_it : words_mean words ≡ Ok asked
+  pub words_mean_it : meant ≡ Ok asked
   pub bytes : List ℕ
   pub was_read : SourceGave old new bytes
   pub image : ImageRecord
@@ -115,16 +126,16 @@ pub record ImageRefuses (words : List (List ℕ)) (old new : Edges) (kind : Usag
 abbrev pub IsUntouched : Edges → Edges → Type 0
 IsUntouched old new = new.held ≡ old.held
 
--- When a status comes, and what it leaves.
+-- When a status comes where the words mean this, and what it leaves.
 -- Own choice: docs/DECISIONS.md, "Statuses"
-abbrev pub IsAnswer : List (List ℕ) → Edges → Edges → Status → Type 0
-IsAnswer words old new Done = (text : List ℕ) × IsReport words old new text × Grows old.held new.held text
-IsAnswer words old new Memory = IsUntouched old new
-IsAnswer words old new (Usage kind) = (((words_mean words ≡ Err kind) × (new.left ≡ old.left)) ⊎ ImageRefuses words old new kind) × IsUntouched old new
-IsAnswer words old new ReadFault = AskToRun words × Rose old.reads_failed new.reads_failed × IsUntouched old new
-IsAnswer words old new WriteFault = (text : List ℕ) × IsReport words old new text × GrowsByFront old.held new.held text × Rose old.writes_failed new.writes_failed
-IsAnswer words old new (Image fault) = AskToRun words × ((bytes : List ℕ) × SourceGave old new bytes × FirstFault bytes fault) × IsUntouched old new
-IsAnswer words old new TooLong = AskToRun words × ((bytes : List ℕ) × (length bytes ≡ most_bytes + 1) × Gave old.left new.left bytes) × IsUntouched old new
+abbrev pub IsAnswer : Result Asked UsageKind → Edges → Edges → Status → Type 0
+IsAnswer meant old new Done = (text : List ℕ) × IsReport meant old new text × Grows old.held new.held text
+IsAnswer meant old new Memory = IsUntouched old new
+IsAnswer meant old new (Usage kind) = (((meant ≡ Err kind) × (new.left ≡ old.left)) ⊎ ImageRefuses meant old new kind) × IsUntouched old new
+IsAnswer meant old new ReadFault = AskToRun meant × Rose old.reads_failed new.reads_failed × IsUntouched old new
+IsAnswer meant old new WriteFault = (text : List ℕ) × IsReport meant old new text × GrowsByFront old.held new.held text × Rose old.writes_failed new.writes_failed
+IsAnswer meant old new (Image fault) = AskToRun meant × ((bytes : List ℕ) × SourceGave old new bytes × FirstFault bytes fault) × IsUntouched old new
+IsAnswer meant old new TooLong = AskToRun meant × ((bytes : List ℕ) × (length bytes ≡ most_bytes + 1) × Gave old.left new.left bytes) × IsUntouched old new
 
 -- out took a text, or a front of it where a write failed
 abbrev pub OutTakes : Edges → Edges → List ℕ → Status → Type 0
@@ -136,22 +147,32 @@ OutTakes old new text ReadFault = ⊥
 OutTakes old new text (Image fault) = ⊥
 OutTakes old new text TooLong = ⊥
 
--- what an image leads to that is asked to run so
+-- the source had the bytes of this image, which allows what is asked for
+pub record HasAllowed (asked : Asked) (old new : Edges) (image : ImageRecord) : Type 0 where
+  pub bytes : List ℕ
+  pub was_read : SourceGave old new bytes
+  pub is_image : ImageOf bytes image
+  pub allowed : refusal image asked ≡ None
+
+-- the source had no such image, and this status says why
+abbrev pub HasNone : Asked → Edges → Edges → Status → Type 0
+HasNone asked old new Memory = Unit {0}
+HasNone asked old new (Usage kind) = ImageRefuses (Ok asked) old new kind
+HasNone asked old new ReadFault = Rose old.reads_failed new.reads_failed
+HasNone asked old new (Image fault) = (bytes : List ℕ) × SourceGave old new bytes × FirstFault bytes fault
+HasNone asked old new TooLong = (bytes : List ℕ) × (length bytes ≡ most_bytes + 1) × Gave old.left new.left bytes
+HasNone asked old new Done = ⊥
+HasNone asked old new WriteFault = ⊥
+
+-- what a run of this image that was asked for so leads to
 abbrev pub IsAnswerOf : ImageRecord → Asked → Edges → Edges → Status → Type 0
 IsAnswerOf image asked old new Done = (text : List ℕ) × IsRunText image asked text × OutTakes old new text Done
 IsAnswerOf image asked old new WriteFault = (text : List ℕ) × IsRunText image asked text × OutTakes old new text WriteFault
 IsAnswerOf image asked old new Memory = IsUntouched old new
-IsAnswerOf image asked old new (Usage kind) = (refusal image asked ≡ Some kind) × IsUntouched old new
+IsAnswerOf image asked old new (Usage kind) = ⊥
 IsAnswerOf image asked old new (Image fault) = ⊥
 IsAnswerOf image asked old new ReadFault = ⊥
 IsAnswerOf image asked old new TooLong = ⊥
-
--- what bytes lead to that are asked to run so
-abbrev pub IsAnswerTo : List ℕ → Asked → Edges → Edges → Status → Type 0
-IsAnswerTo bytes asked old new status =
-    ((image : ImageRecord) × ImageOf bytes image × IsAnswerOf image asked old new status)
-    ⊎ ((fault : ImageFault) × FirstFault bytes fault × (status ≡ Image fault) × IsUntouched old new)
-    ⊎ ((status ≡ Memory) × IsUntouched old new)
 
 -- err got the line of the status, or a front of it where err failed
 abbrev pub Tells : Option (List ℕ) → Option (List ℕ) → ℕ → ℕ → Status → Type 0

@@ -4,9 +4,10 @@ use Rattle.std.specs.List.{starts_with}
 use Rattle.std.specs.Borrow.{Bor}
 use Rattle.std.specs.Str.{all_ascii_digits, bytes_eq}
 use Rattle.std.specs.declared.alloc.Global.{Global}
-use Rattle.m386_core.specs.declared.order.Order.{Order}
 use Rattle.m386_core.specs.declared.order.Order.TheVariants.{Round, Seed}
 use Rattle.m386.specs.declared.words.Asked.{Asked}
+use Rattle.m386.specs.declared.words.Schedule.{Schedule}
+use Rattle.m386.specs.declared.words.Schedule.TheVariants.{Threads, Named}
 use Rattle.m386.specs.declared.status.UsageKind.{UsageKind}
 use Rattle.m386.specs.declared.status.UsageKind.TheVariants.{Command, Line, Value}
 
@@ -85,28 +86,29 @@ abbrev pub seed_in : List (List ℕ) → Option ℕ
 seed_in [] = Some 1
 seed_in (v ∷ vs) = number_in (2 ^ 64 - 1) v
 
--- the order of this name
-abbrev pub order_named : List ℕ → ℕ → Option Order
-order_named v seed = if bytes_eq v (codes "round") then Some Round else if bytes_eq v (codes "seed") then Some (Seed seed) else None
+-- the schedule of this name
+abbrev pub schedule_named : List ℕ → ℕ → Option Schedule
+schedule_named v seed =
+    if bytes_eq v (codes "threads") then Some Threads else if bytes_eq v (codes "round") then Some (Named Round) else if bytes_eq v (codes "seed") then Some (Named (Seed seed)) else None
 
--- The order: it must be named, and the seed must be one, whichever the order is.
+-- The schedule: threads where no word says. The seed must be one, whichever the schedule is.
 -- Own choice: docs/DECISIONS.md, "The words of a call"
-abbrev pub order_in : List (List ℕ) → Option ℕ → Option Order
-order_in [] seed = None
-order_in (v ∷ vs) None = None
-order_in (v ∷ vs) (Some seed) = order_named v seed
+abbrev pub schedule_in : List (List ℕ) → Option ℕ → Option Schedule
+schedule_in vs None = None
+schedule_in [] (Some seed) = Some Threads
+schedule_in (v ∷ vs) (Some seed) = schedule_named v seed
 
 -- these three, or a value is refused
-abbrev pub asked_of : Option (Option ℕ) → Option ℕ → Option Order → Result Asked UsageKind
-asked_of None steps order = Err Value
-asked_of (Some cpus) None order = Err Value
+abbrev pub asked_of : Option (Option ℕ) → Option ℕ → Option Schedule → Result Asked UsageKind
+asked_of None steps schedule = Err Value
+asked_of (Some cpus) None schedule = Err Value
 asked_of (Some cpus) (Some steps) None = Err Value
-asked_of (Some cpus) (Some steps) (Some order) = Ok (record { cpus = cpus; steps = steps; order = order })
+asked_of (Some cpus) (Some steps) (Some schedule) = Ok (record { cpus = cpus; steps = steps; schedule = schedule })
 
 -- what the words behind `run` ask for
 abbrev pub run_means : List (List ℕ) → Result Asked UsageKind
 run_means ws =
-    if is_line ws then asked_of (cpus_in (values_of cpus_option ws)) (steps_in (values_of steps_option ws)) (order_in (values_of order_option ws) (seed_in (values_of seed_option ws)))
+    if is_line ws then asked_of (cpus_in (values_of cpus_option ws)) (steps_in (values_of steps_option ws)) (schedule_in (values_of order_option ws) (seed_in (values_of seed_option ws)))
     else Err Line
 
 -- what is asked for is within its limits
@@ -119,6 +121,19 @@ pub record IsAsked (asked : Asked) : Type 0 where
 abbrev pub words_mean : List (List ℕ) → Result Asked UsageKind
 words_mean [] = Err Command
 words_mean (w ∷ ws) = if bytes_eq w (codes "run") then run_means ws else Err Command
+
+-- What the words mean to a call that starts no thread: a run in threads is a value that it refuses.
+-- Own choice: docs/DECISIONS.md, "The words of a call"
+abbrev pub in_no_thread : Asked → Schedule → Result Asked UsageKind
+in_no_thread asked Threads = Err Value
+in_no_thread asked (Named order) = Ok asked
+
+abbrev pub without_threads : Result Asked UsageKind → Result Asked UsageKind
+without_threads (Ok asked) = in_no_thread asked asked.schedule
+without_threads (Err kind) = Err kind
+
+abbrev pub words_mean_plainly : List (List ℕ) → Result Asked UsageKind
+words_mean_plainly words = without_threads (words_mean words)
 
 -- the texts of words
 abbrev pub texts : List (String Global) → List (List ℕ)

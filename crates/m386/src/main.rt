@@ -4,6 +4,7 @@
 mod laws;
 mod perform;
 mod run;
+mod same;
 mod status;
 mod tell;
 #[cfg(test)]
@@ -50,6 +51,7 @@ fn main(rt: HostRuntime) -> ExitCode {
         }
     };
     let status = top(
+        &rt,
         rt.alloc(),
         words.as_slice(),
         &mut source,

@@ -1,18 +1,20 @@
 //! The work of a call: from its words and its input to its output.
-ghost use Rattle.std.specs.Prelude.{◌≡◌, ◌<◌, ◌≤◌, ℕ, List, None, All, IfOk, length};
+ghost use Rattle.std.specs.Prelude.{◌≡◌, ◌<◌, ◌≤◌, ℕ, List, None, Ok, All, IfOk, IfErr, length};
 ghost use Rattle.m386_image.specs.Format.{IsValid};
 ghost use Rattle.m386_book.specs.Verdict.{IsFirstFailure};
-ghost use Rattle.m386.specs.Top.{IsAnswer, IsAnswerOf, IsAnswerTo, IsRunOf, at_edges, at_out, count_of, excess, refusal};
-ghost use Rattle.m386.specs.Words.{texts, IsAsked};
+ghost use Rattle.m386.specs.Top.{IsAnswer, IsAnswerOf, IsRunOf, HasAllowed, HasNone, at_edges, at_source, at_out, count_of, excess, refusal};
+ghost use Rattle.m386.specs.Words.{texts, IsAsked, words_mean_plainly};
 ghost use Rattle.m386.specs.declared.words.Asked.{Asked as AskedData};
+ghost use Rattle.m386.specs.declared.words.Schedule.TheVariants.{Threads};
 
-use crate::run::run_image;
+use crate::run::{run_image, run_in_threads};
 use crate::status::{Status, UsageKind};
-use crate::words::{Asked, read_words};
+use crate::words::{Asked, Schedule, read_words};
 use m386_base::fault::NoMemory;
 use m386_book::clean::clean;
 use m386_book::verdict::Verdict;
 use m386_edge::failed::Failed;
+use m386_edge::gate::Gate;
 use m386_edge::reading::{ReadEnd, read_whole};
 use m386_edge::sink::Sink;
 use m386_edge::source::Source;
@@ -23,6 +25,8 @@ use m386_memory::ended::Ended;
 use m386_state::proc::Proc;
 use m386_trace::report::report;
 use std::alloc::Global;
+use std::sync::Wait;
+use std::thread::Threads;
 
 /// The most bytes of an input.
 const MOST_BYTES: usize = 20_971_520;
@@ -75,46 +79,57 @@ fn write_run<K: Sink>(image: &Image, ended: &Ended<Proc>, verdict: &Verdict, out
     }
 }
 
-/// Runs an image as it is asked to, and writes the report.
-fn run_asked<K: Sink>(alloc: Global, image: &Image, asked: &Asked, out: &mut K) -> Status
-    requires valid { IsValid image.now }
-    requires kept { IsAsked asked.now }
-    ensures { IsAnswerOf image.now asked.now (at_out (K.held out.old) (K.faults out.old)) (at_out (K.held out.new) (K.faults out.new)) result }
+/// Writes the report on the run of an image.
+fn report_on<K: Sink>(alloc: Global, image: &Image, ended: &Ended<Proc>, out: &mut K) -> Status
+    requires cpus { All (λ c. c.cpu < 8) ended.now.log.cycles }
+    requires few { length ended.now.procs ≤ 8 }
+    ensures { (asked : AskedData) → refusal image.now asked ≡ None → IsRunOf image.now asked ended.now.log.cycles ended.now.procs
+        → IsAnswerOf image.now asked (at_out (K.held out.old) (K.faults out.old)) (at_out (K.held out.new) (K.faults out.new)) result }
 {
-    let cpus = count_for(image, asked.cpus);
-    if let Some(kind) = excess_of(image.cpus, cpus, asked.steps) {
-        return Status::Usage(kind);
-    }
-    let Ok(ended) = run_image(alloc, image, cpus, asked.steps, &asked.order) else {
+    let Ok(verdict) = verdict_on(alloc, image, ended) else {
         return Status::Memory;
     };
-    let Ok(verdict) = verdict_on(alloc, image, &ended) else {
-        return Status::Memory;
-    };
-    write_run(image, &ended, &verdict, out)
+    write_run(image, ended, &verdict, out)
 }
 
-/// Runs the image that the bytes are as it is asked to, and writes the report.
-fn run_bytes<K: Sink>(alloc: Global, bytes: &[u8], asked: &Asked, out: &mut K) -> Status
+/// The image that the source has, where it allows what is asked for, and how many of its processors run.
+fn read_allowed<S: Source>(
+    alloc: Global,
+    source: &mut S,
+    asked: &Asked,
+) -> Result<(Image, u8), Status>
     requires { IsAsked asked.now }
-    ensures { IsAnswerTo bytes.now asked.now (at_out (K.held out.old) (K.faults out.old)) (at_out (K.held out.new) (K.faults out.new)) result }
+    ensures ok { IfOk result (λ r. HasAllowed asked.now (at_source (S.left source.old) (S.faults source.old)) (at_source (S.left source.new) (S.faults source.new)) r.0) }
+    ensures err { IfErr result (HasNone asked.now (at_source (S.left source.old) (S.faults source.old)) (at_source (S.left source.new) (S.faults source.new))) }
+    ensures valid { IfOk result (λ r. IsValid r.0) }
+    ensures count { IfOk result (λ r. (r.1 ≡ count_of r.0 asked.now.cpus) × (1 ≤ r.1) × (r.1 ≤ r.0.cpus)) }
 {
-    let image = match read_image(alloc, bytes) {
-        Ok(image) => image,
-        Err(ReadStop::Memory) => return Status::Memory,
-        Err(ReadStop::Bad(fault)) => return Status::Image(fault),
+    let bytes = match read_whole(alloc, source, MOST_BYTES) {
+        Ok(bytes) => bytes,
+        Err(ReadEnd::Memory) => return Err(Status::Memory),
+        Err(ReadEnd::Failed) => return Err(Status::ReadFault),
+        Err(ReadEnd::TooLong) => return Err(Status::TooLong),
     };
-    run_asked(alloc, &image, asked, out)
+    let image = match read_image(alloc, &bytes) {
+        Ok(image) => image,
+        Err(ReadStop::Memory) => return Err(Status::Memory),
+        Err(ReadStop::Bad(fault)) => return Err(Status::Image(fault)),
+    };
+    let cpus = count_for(&image, asked.cpus);
+    match excess_of(image.cpus, cpus, asked.steps) {
+        Some(kind) => Err(Status::Usage(kind)),
+        None => Ok((image, cpus)),
+    }
 }
 
-/// Does what the words ask for with what the source has.
+/// Does what the words ask for with what the source has, where that is no run in threads.
 pub fn perform<S: Source, K: Sink>(
     alloc: Global,
     words: &[String],
     source: &mut S,
     out: &mut K,
 ) -> Status
-    ensures { IsAnswer (texts words.now)
+    ensures { IsAnswer (words_mean_plainly (texts words.now))
         (at_edges (S.left source.old) (S.faults source.old) (K.held out.old) (K.faults out.old))
         (at_edges (S.left source.new) (S.faults source.new) (K.held out.new) (K.faults out.new))
         result }
@@ -123,11 +138,41 @@ pub fn perform<S: Source, K: Sink>(
         Ok(asked) => asked,
         Err(kind) => return Status::Usage(kind),
     };
-    let bytes = match read_whole(alloc, source, MOST_BYTES) {
-        Ok(bytes) => bytes,
-        Err(ReadEnd::Memory) => return Status::Memory,
-        Err(ReadEnd::Failed) => return Status::ReadFault,
-        Err(ReadEnd::TooLong) => return Status::TooLong,
+    let Schedule::Named(order) = &asked.schedule else {
+        return Status::Usage(UsageKind::Value);
     };
-    run_bytes(alloc, &bytes, &asked, out)
+    let (image, cpus) = match read_allowed(alloc, source, &asked) {
+        Ok(allowed) => allowed,
+        Err(status) => return status,
+    };
+    let Ok(ended) = run_image(alloc, &image, cpus, asked.steps, order) else {
+        return Status::Memory;
+    };
+    report_on(alloc, &image, &ended, out)
+}
+
+/// Makes the run in threads that is asked for with what the source has.
+pub fn perform_in_threads<S: Source, K: Sink, G: Gate + Sync, R: Threads + Wait + Sync>(
+    rt: &R,
+    alloc: Global,
+    asked: &Asked,
+    source: &mut S,
+    out: &mut K,
+    gate: &G,
+) -> Status
+    requires kept { IsAsked asked.now }
+    requires threads { asked.now.schedule ≡ Threads }
+    ensures { IsAnswer (Ok asked.now)
+        (at_edges (S.left source.old) (S.faults source.old) (K.held out.old) (K.faults out.old))
+        (at_edges (S.left source.new) (S.faults source.new) (K.held out.new) (K.faults out.new))
+        result }
+{
+    let (image, cpus) = match read_allowed(alloc, source, asked) {
+        Ok(allowed) => allowed,
+        Err(status) => return status,
+    };
+    let Ok(ended) = run_in_threads(rt, alloc, &image, cpus, asked.steps, gate) else {
+        return Status::Memory;
+    };
+    report_on(alloc, &image, &ended, out)
 }

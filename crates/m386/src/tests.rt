@@ -1,5 +1,6 @@
 //! What calls of the program answer where an edge fails, and the texts of statuses. `tools/check_program.py` has whole runs of the built program.
 mod several;
+mod threads;
 
 ghost use Rattle.std.specs.Prelude.{◌≤◌};
 
@@ -89,6 +90,7 @@ fn call_with_a_gate_is_the_same(rt: HostRuntime) -> Result<(), Fail> {
     let mut out = sink_failing(rt.alloc(), 0)?;
     let mut err = sink_failing(rt.alloc(), 0)?;
     let status = top(
+        &rt,
         rt.alloc(),
         words.as_slice(),
         &mut source,

@@ -1,7 +1,7 @@
 //! The words of a call: the command, and its options.
 ghost use Rattle.std.specs.Prelude.{◌≡◌, ◌≤◌, IfOk};
 ghost use Rattle.std.specs.Option.{ForSome};
-ghost use Rattle.m386.specs.Words.{texts, number_in, values_of, value_list, FindsOnly, is_option, are_options, cpus_in, steps_in, seed_in, order_named, order_in, asked_of, IsAsked, run_means, words_mean};
+ghost use Rattle.m386.specs.Words.{texts, number_in, values_of, value_list, FindsOnly, is_option, are_options, cpus_in, steps_in, seed_in, schedule_named, schedule_in, asked_of, IsAsked, run_means, words_mean};
 
 use crate::status::UsageKind;
 use m386_core::order::Order;
@@ -27,6 +27,9 @@ const ROUND: &[u8] = b"round";
 /// The order that is drawn from a seed.
 const SEEDED: &[u8] = b"seed";
 
+/// No order: each processor runs in a thread of its own.
+const THREADS: &[u8] = b"threads";
+
 /// The most processors.
 const MOST_CPUS: u64 = 8;
 
@@ -42,6 +45,15 @@ const SEED_UNASKED: u64 = 1;
 /// The most digits of a number.
 const MOST_DIGITS: usize = 20;
 
+/// What decides who makes the next cycle.
+#[derive(Debug, Drop)]
+pub enum Schedule {
+    /// Each processor runs in a thread of its own, and whichever comes first goes on.
+    Threads,
+    /// An order that names processors.
+    Named(Order),
+}
+
 /// What the words of a run ask for.
 #[derive(Debug, Drop)]
 pub struct Asked {
@@ -49,8 +61,8 @@ pub struct Asked {
     pub cpus: Option<u8>,
     /// The most steps of each processor, at most 65,536.
     pub steps: u32,
-    /// Which processor is named before each cycle.
-    pub order: Order,
+    /// What decides who makes the next cycle.
+    pub schedule: Schedule,
 }
 
 /// A number of decimal digits with no sign, at most `most`.
@@ -110,24 +122,30 @@ fn read_seed(value: Option<&[u8]>) -> Option<u64>
     number(text, u64::MAX)
 }
 
-/// The order of a name.
-fn order_of(name: &[u8], seed: u64) -> Option<Order>
-    ensures { result ≡ order_named name.now seed }
+/// The schedule of a name.
+fn schedule_of(name: &[u8], seed: u64) -> Option<Schedule>
+    ensures { result ≡ schedule_named name.now seed }
 {
-    if name == ROUND {
-        Some(Order::Round)
+    if name == THREADS {
+        Some(Schedule::Threads)
+    } else if name == ROUND {
+        Some(Schedule::Named(Order::Round))
     } else if name == SEEDED {
-        Some(Order::Seed(seed))
+        Some(Schedule::Named(Order::Seed(seed)))
     } else {
         None
     }
 }
 
-/// The order that the values of its option and of the seed's ask for.
-fn read_order(value: Option<&[u8]>, seed: Option<u64>) -> Option<Order>
-    ensures { result ≡ order_in (value_list value.entry) seed }
+/// The schedule that the values of the order's option and of the seed's ask for: threads where no word says.
+fn read_schedule(value: Option<&[u8]>, seed: Option<u64>) -> Option<Schedule>
+    ensures { result ≡ schedule_in (value_list value.entry) seed }
 {
-    order_of(value?, seed?)
+    let seed = seed?;
+    match value {
+        None => Some(Schedule::Threads),
+        Some(name) => schedule_of(name, seed),
+    }
 }
 
 /// Whether a word is an option with its value.
@@ -176,15 +194,19 @@ fn only_value<'a>(words: &'a [String], name: &[u8]) -> Result<Option<&'a [u8]>, 
 fn all_asked(
     cpus: Option<Option<u8>>,
     steps: Option<u32>,
-    order: Option<Order>,
+    schedule: Option<Schedule>,
 ) -> Result<Asked, UsageKind>
     requires some { ForSome cpus (λ asked. ForSome asked (λ count. 1 ≤ count)) }
     requires most { ForSome steps (λ n. n ≤ 65536) }
-    ensures value { result ≡ asked_of cpus steps order }
+    ensures value { result ≡ asked_of cpus steps schedule }
     ensures kept { IfOk result IsAsked }
 {
-    match (cpus, steps, order) {
-        (Some(cpus), Some(steps), Some(order)) => Ok(Asked { cpus, steps, order }),
+    match (cpus, steps, schedule) {
+        (Some(cpus), Some(steps), Some(schedule)) => Ok(Asked {
+            cpus,
+            steps,
+            schedule,
+        }),
         _ => Err(UsageKind::Value),
     }
 }
@@ -204,7 +226,7 @@ fn read_run(words: &[String]) -> Result<Asked, UsageKind>
     all_asked(
         read_cpus(cpus),
         read_steps(steps),
-        read_order(order, read_seed(seed)),
+        read_schedule(order, read_seed(seed)),
     )
 }
 

@@ -29,9 +29,23 @@ record_send = view_send record_inside.the_row _ _ _ _ record_fields_send
 machine_fields_send : (κ : NamedLft) → IsSend (machine_inside.the_row κ)
 machine_fields_send κ = declared_send (machine_inside.the_type κ) (
   search (sendable, crosses, image.the_sync) depth 30,
-  (search sendable depth 20, (search sendable depth 20, (record_send, (
-    search (sendable, crosses, end.the_send, proc.the_send) depth 30, (
-    search (sendable, crosses, unfinished.the_send) depth 30, (search (sendable, crosses) depth 20, tt)))))))
+  (
+    search sendable depth 20,
+    (
+      search sendable depth 20,
+      (
+        record_send,
+        (
+          search (sendable, crosses, end.the_send, proc.the_send) depth 30,
+          (
+            search (sendable, crosses, unfinished.the_send) depth 30,
+            (search (sendable, crosses) depth 20, tt),
+          ),
+        ),
+      ),
+    ),
+  ),
+)
 
 machine_send : (κ : NamedLft) → IsSend (Machine.the_row κ)
 machine_send κ = view_send (machine_inside.the_row κ) _ _ _ _ (machine_fields_send κ)
