@@ -3,7 +3,7 @@ ghost use Rattle.std.specs.Prelude.{◌≡◌, Option, Some, None, List, ℕ};
 ghost use Rattle.std.specs.Borrow.{Bor};
 ghost use Rattle.std.specs.List.{list_any};
 ghost use Rattle.m386_opmap.specs.Operands.{width_of};
-ghost use Rattle.m386_words.specs.Mnemonics.{by_width, word_of, is_word, has_word, is_mnemonic};
+ghost use Rattle.m386_words.specs.Mnemonics.{by_width, computing_word, moving_word, transfer_word, condition_word, processor_word, string_word, word_of, is_word, has_word, is_mnemonic};
 ghost use Rattle.m386_words.specs.Seen.{word_seen};
 
 use m386_base::number::Width;
@@ -27,10 +27,9 @@ fn by_width(
     }
 }
 
-/// The word of an operation of a width (PRM 17.2.2). Far jumps and calls have the words of near ones, and what begins a
-/// coprocessor's has none.
-pub fn word_of(name: Name, width: Width) -> Option<&'static [u8]>
-    ensures { word_seen result ≡ word_of name width }
+/// Arithmetic, logic, shifts and bits.
+fn computing_word(name: Name) -> Option<&'static [u8]>
+    ensures { word_seen result ≡ computing_word name }
 {
     match name {
         Name::Add => Some(b"add"),
@@ -65,6 +64,15 @@ pub fn word_of(name: Name, width: Width) -> Option<&'static [u8]>
         Name::Btc => Some(b"btc"),
         Name::Bsf => Some(b"bsf"),
         Name::Bsr => Some(b"bsr"),
+        _ => None,
+    }
+}
+
+/// Moves, stacks and ports.
+fn moving_word(name: Name) -> Option<&'static [u8]>
+    ensures { word_seen result ≡ moving_word name }
+{
+    match name {
         Name::Mov => Some(b"mov"),
         Name::Movzx8 => Some(b"movzx"),
         Name::Movzx16 => Some(b"movzx"),
@@ -87,11 +95,17 @@ pub fn word_of(name: Name, width: Width) -> Option<&'static [u8]>
         Name::Pushf => Some(b"pushf"),
         Name::Popf => Some(b"popf"),
         Name::Leave => Some(b"leave"),
-        Name::Movs => by_width(width, b"movsb", b"movsw", b"movsd"),
-        Name::Cmps => by_width(width, b"cmpsb", b"cmpsw", b"cmpsd"),
-        Name::Stos => by_width(width, b"stosb", b"stosw", b"stosd"),
-        Name::Lods => by_width(width, b"lodsb", b"lodsw", b"lodsd"),
-        Name::Scas => by_width(width, b"scasb", b"scasw", b"scasd"),
+        Name::In => Some(b"in"),
+        Name::Out => Some(b"out"),
+        _ => None,
+    }
+}
+
+/// Jumps, calls, returns, interrupts and loops.
+fn transfer_word(name: Name) -> Option<&'static [u8]>
+    ensures { word_seen result ≡ transfer_word name }
+{
+    match name {
         Name::Jmp => Some(b"jmp"),
         Name::Jmpf => Some(b"jmp"),
         Name::Call => Some(b"call"),
@@ -106,6 +120,15 @@ pub fn word_of(name: Name, width: Width) -> Option<&'static [u8]>
         Name::Loopz => Some(b"loopz"),
         Name::Loop => Some(b"loop"),
         Name::Jecxz => Some(b"jecxz"),
+        _ => None,
+    }
+}
+
+/// Jumps and bytes by a condition.
+fn condition_word(name: Name) -> Option<&'static [u8]>
+    ensures { word_seen result ≡ condition_word name }
+{
+    match name {
         Name::Jo => Some(b"jo"),
         Name::Jno => Some(b"jno"),
         Name::Jb => Some(b"jb"),
@@ -138,8 +161,15 @@ pub fn word_of(name: Name, width: Width) -> Option<&'static [u8]>
         Name::Setge => Some(b"setge"),
         Name::Setle => Some(b"setle"),
         Name::Setg => Some(b"setg"),
-        Name::In => Some(b"in"),
-        Name::Out => Some(b"out"),
+        _ => None,
+    }
+}
+
+/// Flags, segments and the state of the processor.
+fn processor_word(name: Name) -> Option<&'static [u8]>
+    ensures { word_seen result ≡ processor_word name }
+{
+    match name {
         Name::Clc => Some(b"clc"),
         Name::Stc => Some(b"stc"),
         Name::Cmc => Some(b"cmc"),
@@ -169,8 +199,45 @@ pub fn word_of(name: Name, width: Width) -> Option<&'static [u8]>
         Name::Hlt => Some(b"hlt"),
         Name::Nop => Some(b"nop"),
         Name::Wait => Some(b"wait"),
-        Name::Esc => None,
+        _ => None,
     }
+}
+
+/// The operations on strings, with a last letter for their width.
+fn string_word(name: Name, width: Width) -> Option<&'static [u8]>
+    ensures { word_seen result ≡ string_word name width }
+{
+    match name {
+        Name::Movs => by_width(width, b"movsb", b"movsw", b"movsd"),
+        Name::Cmps => by_width(width, b"cmpsb", b"cmpsw", b"cmpsd"),
+        Name::Stos => by_width(width, b"stosb", b"stosw", b"stosd"),
+        Name::Lods => by_width(width, b"lodsb", b"lodsw", b"lodsd"),
+        Name::Scas => by_width(width, b"scasb", b"scasw", b"scasd"),
+        _ => None,
+    }
+}
+
+/// The word of an operation of a width (PRM 17.2.2). Far jumps and calls have the words of near ones, and what begins a
+/// coprocessor's has none.
+pub fn word_of(name: Name, width: Width) -> Option<&'static [u8]>
+    ensures { word_seen result ≡ word_of name width }
+{
+    if let Some(word) = computing_word(name) {
+        return Some(word);
+    }
+    if let Some(word) = moving_word(name) {
+        return Some(word);
+    }
+    if let Some(word) = transfer_word(name) {
+        return Some(word);
+    }
+    if let Some(word) = condition_word(name) {
+        return Some(word);
+    }
+    if let Some(word) = processor_word(name) {
+        return Some(word);
+    }
+    string_word(name, width)
 }
 
 /// How wide the operands of a row are, with 66h and without it.

@@ -34,42 +34,44 @@ fn lines_end_with_a_line_feed(rt: HostRuntime) {
     );
 }
 
+/// Lines, and their tokens up to a comment.
+const TOKENS: [(&str, &[Token<'static>]); 6] = [
+    ("", &[]),
+    ("; [", &[]),
+    (
+        "x:.byte 0x1F",
+        &[
+            Token::Word(b"x"),
+            Token::Colon,
+            Token::Word(b".byte"),
+            Token::Blank,
+            Token::Word(b"0x1F"),
+        ],
+    ),
+    (
+        "_9.z\t,[]+-*=;,",
+        &[
+            Token::Word(b"_9.z"),
+            Token::Blank,
+            Token::Comma,
+            Token::Open,
+            Token::Close,
+            Token::Plus,
+            Token::Minus,
+            Token::Star,
+            Token::Equals,
+        ],
+    ),
+    (
+        "a#b",
+        &[Token::Word(b"a"), Token::Strange, Token::Word(b"b")],
+    ),
+    ("(\u{7f}", &[Token::Strange, Token::Strange]),
+];
+
 #[test]
 fn a_line_is_words_marks_and_blanks(rt: HostRuntime) -> Result<(), Fail> {
-    let cases: [(&str, &[Token<'static>]); 6] = [
-        ("", &[]),
-        ("; [", &[]),
-        (
-            "x:.byte 0x1F",
-            &[
-                Token::Word(b"x"),
-                Token::Colon,
-                Token::Word(b".byte"),
-                Token::Blank,
-                Token::Word(b"0x1F"),
-            ],
-        ),
-        (
-            "_9.z\t,[]+-*=;,",
-            &[
-                Token::Word(b"_9.z"),
-                Token::Blank,
-                Token::Comma,
-                Token::Open,
-                Token::Close,
-                Token::Plus,
-                Token::Minus,
-                Token::Star,
-                Token::Equals,
-            ],
-        ),
-        (
-            "a#b",
-            &[Token::Word(b"a"), Token::Strange, Token::Word(b"b")],
-        ),
-        ("(\u{7f}", &[Token::Strange, Token::Strange]),
-    ];
-    for (line, wanted) in cases {
+    for (line, wanted) in TOKENS {
         let tokens = words_of(rt.alloc(), line.as_bytes())?;
         assert_eq!(rt; tokens.as_slice(), wanted, "{line}");
     }
