@@ -153,7 +153,7 @@ def main():
         for fault in wrong[:3]:
             print(f"run {n}, {cpus} fight for {kind}: {fault}")
         faults += len(wrong)
-        told.update({"cycles": made, "claims": sum(text.count(f" {role} ") for role in ("claimjmp", "claimcall")), "#GP": text.count(" push "), f"fights for {kind}": 1})
+        told.update({"cycles": made, "claims": sum(text.count(f" {role} ") for role in ("claimjmp", "claimcall")), "pushes": text.count(" push "), f"fights for {kind}": 1})
     print(f"{runs} runs, {dict(told)}, {faults} faults")
     sys.exit(faults > 0)
 
