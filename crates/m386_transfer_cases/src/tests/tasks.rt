@@ -111,6 +111,23 @@ JMP to a TSS without a task: no further cycle
  r gdt 0 1028 f 31000067
  r+ gdt 0 102c f 8900
  after pending=d:0
+JMP at level 3 to a TSS of level 0
+ before cs=3b:0:fffff:fb:c
+ r fetch 0 4000 f ea
+ r fetch 0 4004 f 2800
+ r gdt 0 1028 f 31000067
+ r+ gdt 0 102c f 8900
+ r tss 0 1028 f 31000067
+ r+ tss 0 102c f 8900
+ after pending=d:28
+CALL to a TSS of level 0 by a selector of level 3
+ r fetch 0 4000 f 9a
+ r fetch 0 4004 f 2b00
+ r gdt 0 1028 f 31000067
+ r+ gdt 0 102c f 8900
+ r tss 0 1028 f 31000067
+ r+ tss 0 102c f 8900
+ after pending=d:28
 JMP through a task gate to the task itself
  r fetch 0 4000 f ea
  r fetch 0 4004 f 2000
@@ -473,5 +490,5 @@ LTR at level 3, before its operand
 
 #[test]
 fn each_way_into_a_switch(rt: HostRuntime) {
-    assert_eq!(rt; all_made(SWITCHES), Ok(22));
+    assert_eq!(rt; all_made(SWITCHES), Ok(24));
 }
