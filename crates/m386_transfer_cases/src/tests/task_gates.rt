@@ -113,7 +113,7 @@ fn entered(nested: u32, eip: u32, selectors: &[u16; 7], passed: usize) -> Proc {
     let mut p = before(3);
     p.regs = [0; 8];
     p.eip = eip;
-    p.eflags = Flags(nested + 2);
+    p.eflags = Flags(nested | 2);
     p.ldtr = register(selectors, 0, passed);
     p.segs = [
         register(selectors, 4, passed),
