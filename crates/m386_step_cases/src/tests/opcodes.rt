@@ -4,8 +4,8 @@ use m386_opmap::outcome::Reading;
 use m386_opmap::reading::reading;
 use m386_opmap::row::Row;
 use m386_opmap::rows::OPCODE_ROWS;
-use m386_step::alone::step_alone;
 use m386_state::proc::{Mode, Proc};
+use m386_step::alone::step_alone;
 use std::process::Abort;
 
 /// A ModRM byte that names memory at an address of 32 bits, and one that names register 3. Their middle bits are 0.
