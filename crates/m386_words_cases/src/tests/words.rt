@@ -65,17 +65,15 @@ const REGISTERS: [(Width, &str); 3] = [
 #[test]
 fn registers_have_their_numbers(rt: HostRuntime) {
     for (width, words) in REGISTERS {
-        let mut wanted = 0;
-        for word in words.split(' ') {
-            assert_eq!(rt; register(width, word.as_bytes()), Some(wanted), "{word}");
+        for (wanted, word) in words.split(' ').enumerate() {
+            let number = register(width, word.as_bytes()).map(usize::from);
+            assert_eq!(rt; number, Some(wanted), "{word}");
             assert!(rt; segment(word.as_bytes()).is_none(), "{word}");
-            wanted += 1;
         }
     }
-    let mut wanted = 0;
-    for word in "es cs ss ds fs gs".split(' ') {
-        assert_eq!(rt; segment(word.as_bytes()), Some(wanted), "{word}");
-        wanted += 1;
+    for (wanted, word) in "es cs ss ds fs gs".split(' ').enumerate() {
+        let number = segment(word.as_bytes()).map(usize::from);
+        assert_eq!(rt; number, Some(wanted), "{word}");
     }
     for word in "EAX eaxx ea cr0 ip hs r8".split(' ') {
         assert!(rt; register(Width::W32, word.as_bytes()).is_none(), "{word}");
