@@ -1,6 +1,5 @@
 //! The words of operations.
-ghost use Rattle.std.specs.Prelude.{◌≡◌, Option, Some, None, List, ℕ};
-ghost use Rattle.std.specs.Borrow.{Bor};
+ghost use Rattle.std.specs.Prelude.{◌≡◌, Some};
 ghost use Rattle.std.specs.List.{list_any};
 ghost use Rattle.m386_opmap.specs.Operands.{width_of};
 ghost use Rattle.m386_words.specs.Mnemonics.{by_width, computing_word, moving_word, transfer_word, condition_word, processor_word, string_word, word_of, is_word, has_word, is_mnemonic};

@@ -154,7 +154,7 @@ const REFUSED: [&str; 41] = [
     "[[eax]",
     "[eax]+4",
     "[ax]",
-    "[al]",
+    "[eax+",
     "[cs]",
     "[cr0]",
     "[eax+ecx]",
