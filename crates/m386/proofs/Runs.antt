@@ -1,5 +1,5 @@
 -- What the parts of a call come to together: the source, the run and the report.
-use Rattle.std.proofs.Common.{◌≡◌, ℕ, ◌*◌, ◌<◌, ◌≤◌, refl, sym, subst, ap, ◌∙◌, arith, List, cond, Bool, true, false, nat_lt, Option, Some, None, Result, Ok, Err}
+use Rattle.std.proofs.Common.{◌≡◌, ℕ, ◌*◌, ◌≤◌, refl, sym, subst, ap, ◌∙◌, arith, List, cond, Bool, true, false, nat_lt, Option, Some, None, Result, Ok}
 use Rattle.m386_base.specs.declared.ask.Cycle.{Cycle}
 use Rattle.m386_book.specs.Verdict.{IsFirstFailure}
 use Rattle.m386_book.specs.declared.verdict.Verdict.{Verdict}

@@ -1,5 +1,5 @@
 -- What a call of the program answers, and what it leaves of its source and its sinks.
-use Rattle.std.specs.Prelude.{◌≡◌, ℕ, ◌+◌, ◌*◌, ◌<◌, ◌≤◌, ◌⊎◌, nat_lt, if◌then◌else◌, Result, Ok, Err, Option, Some, None, List, length}
+use Rattle.std.specs.Prelude.{◌≡◌, ℕ, ◌+◌, ◌*◌, ◌≤◌, ◌⊎◌, nat_lt, if◌then◌else◌, Result, Ok, Err, Option, Some, None, List, length}
 use Rattle.m386_base.specs.Bus.{Rose}
 use Rattle.m386_base.specs.declared.ask.Cycle.{Cycle}
 use Rattle.m386_book.specs.Verdict.{IsFirstFailure}
@@ -9,7 +9,6 @@ use Rattle.m386_core.specs.Switches.{SwitchesEnd}
 use Rattle.m386_edge.specs.Edge.{Gave, IsEmptied, Grows, GrowsByFront}
 use Rattle.m386_image.specs.Fault.{FirstFault}
 use Rattle.m386_image.specs.Format.{ImageOf}
-use Rattle.m386_image.specs.declared.fault.ImageFault.{ImageFault}
 use Rattle.m386_image.specs.declared.image.Image.{Image as ImageRecord}
 use Rattle.m386_memory.specs.declared.ended.ProcEnd.{ProcEnd}
 use Rattle.m386_state.specs.declared.proc.Proc.{Proc}

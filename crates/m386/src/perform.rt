@@ -1,5 +1,5 @@
 //! The work of a call: from its words and its input to its output.
-ghost use Rattle.std.specs.Prelude.{◌≡◌, ◌<◌, ◌≤◌, ℕ, List, None, Ok, All, IfOk, IfErr, length};
+ghost use Rattle.std.specs.Prelude.{◌≡◌, ◌<◌, ◌≤◌, None, Ok, All, IfOk, IfErr, length};
 ghost use Rattle.m386_image.specs.Format.{IsValid};
 ghost use Rattle.m386_book.specs.Verdict.{IsFirstFailure};
 ghost use Rattle.m386.specs.Top.{IsAnswer, IsAnswerOf, IsRunOf, HasAllowed, HasNone, at_edges, at_source, at_out, count_of, excess, refusal};

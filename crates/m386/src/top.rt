@@ -34,8 +34,8 @@ fn told<E: Sink>(err: &mut E, status: Status) -> Status
 }
 
 /// Does what the words ask for with the input of `source`: writes the output to `out`, or says in a line on `err` why there
-/// is none. It starts no thread and always returns: a run in threads is a value of the order that it refuses. Want of memory may come at any point before the first byte is written to
-/// `out`.
+/// is none. It starts no thread and always returns: a run in threads is a value of the order that it refuses. Want of memory may
+/// come at any point before the first byte is written to `out`.
 #[tactic(auto, using(crate::proofs::Answers::answers))]
 pub fn top_plain<S: Source, K: Sink, E: Sink>(
     alloc: Global,
