@@ -28,6 +28,16 @@ struct Meeting {
     given_up: AtomicBool,
 }
 
+impl Meeting {
+    /// Whether both came, and neither gave up.
+    fn was_met(&self) -> bool {
+        let [zero, one] = &self.came;
+        zero.load(Ordering::SeqCst)
+            && one.load(Ordering::SeqCst)
+            && !self.given_up.load(Ordering::SeqCst)
+    }
+}
+
 impl Gate for Meeting {
     fn pass(&self, cpu: u8, made: u32) {
         if made != 4 || cpu > 1 {
@@ -77,11 +87,7 @@ fn two_processors_meet_at_a_gate(rt: HostRuntime) -> Result<(), Fail> {
         &gate,
     );
     assert_eq!(rt; status, Status::Done);
-    let Meeting {
-        came: [zero, one],
-        given_up,
-    } = gate;
-    assert!(rt; zero.into_inner() && one.into_inner() && !given_up.into_inner());
+    assert!(rt; gate.was_met());
     for line in [
         "c 0 m r . fetch 00 00001000 f 0000feeb",
         "c 1 m r . fetch 00 00001000 f 0000feeb",
