@@ -1,5 +1,5 @@
 -- Each attempt at a task switch in a run ends whole or at the first row that fails.
-use Rattle.std.proofs.Common.{◌≡◌, ℕ, zero, suc, ◌+◌, ◌<◌, Bool, true, false, List, [], ◌∷◌, ◌++◌, length, Option, Some, None, refl, sym, ap, subst, ◌∙◌, arith, append_assoc, inl, inr}
+use Rattle.std.proofs.Common.{◌≡◌, ℕ, zero, suc, ◌+◌, ◌<◌, true, false, List, [], ◌∷◌, ◌++◌, length, Option, Some, None, refl, sym, ap, subst, ◌∙◌, arith, append_assoc, inl, inr}
 use Rattle.std.specs.Prelude.{IsSome, ◌||◌, slice_get}
 use Rattle.std.specs.List.{AllByRecursion, Contains, flat_map}
 use Rattle.std.proofs.lemmas.Bool.{or_parts}
@@ -8,19 +8,23 @@ use Rattle.m386_base.specs.declared.ask.Ask.{Ask}
 use Rattle.m386_base.specs.declared.ask.Cycle.{Cycle}
 use Rattle.m386_base.specs.declared.ask.Role.{Role}
 use Rattle.m386_base.specs.declared.ask.Role.TheVariants as roles
-use Rattle.m386_base.specs.Laws.{attempts}
-use Rattle.m386_base.specs.Phrase.{Attempt, follow, Whole}
+use Rattle.m386_base.specs.Phrase.{Attempt, Done, ◌>>=◌, follow, Whole}
 use Rattle.m386_base.proofs.Members.{contains_cases, contains_first, contains_later}
 use Rattle.m386_checks.specs.declared.facts.Fail.{Fail}
 use Rattle.m386_checks.specs.declared.facts.Facts.{Facts}
-use Rattle.m386_checks.specs.First.{old_fail_of}
+use Rattle.m386_checks.specs.First.{first_fail_of, old_fail_of}
+use Rattle.m386_checks.proofs.Meaning.{old_is_first}
+use Rattle.m386_deliver.specs.Deliver.{by_rows_phrase}
 use Rattle.m386_image.specs.declared.image.Image.{Image}
 use Rattle.m386_memory.specs.History.{cycles_of}
 use Rattle.m386_memory.specs.declared.ended.ProcEnd.{ProcEnd}
+use Rattle.m386_state.specs.declared.event.Event.{Event}
 use Rattle.m386_state.specs.declared.proc.Proc.{Proc}
 use Rattle.m386_switch.specs.Attempts.{is_of_a_switch}
+use Rattle.m386_switch.specs.declared.outcome.Switched.{Switched}
 use Rattle.m386_switch.specs.Ends.{EndsBy}
 use Rattle.m386_switch.specs.Seen.{Seen, seen, seen_from, nothing_seen, note, by_role, facts_of}
+use Rattle.m386_step.specs.Events.{behind_delivery, behind_task_phrase}
 use Rattle.m386_step.specs.Run.{Run, start_of, plan_of}
 use Rattle.m386_step.specs.Step.{Follow, step_phrase}
 use Rattle.m386_step.specs.StepEnds.{StepEnds, IsBehindReads}
@@ -102,12 +106,36 @@ kept_reads m ts f s after None some h = let d : false ≡ true = some in cc
 kept_reads m ts f s after (Some x) some h = (no_write_from nothing_seen ts h.read).1
 
 -- where one of rows 1 to 7 fails, the whole step writes nothing
-quiet_step : (x : Made) (m : Attempt) (us : List Ask) → StepEnds x.before m us x.after → IsBehindReads x.cycles us → FailsInOldTask m us → AllByRecursion (λ (t : Ask). t.write ≡ false) x.cycles
+-- Behind a switch of an event of which a row failed there is no cycle.
+none_behind : (e : Event) (came : Switched) (x : Fail) (ts : List Ask) (s2 : Proc) → came.fail ≡ Some x → follow (behind_task_phrase e came) ts ≡ Whole s2 [] → ts ≡ []
+unfolding behind_task_phrase ◌>>=◌ follow
+none_behind e came x ts s2 fails h = go came.fail fails ts h
+  where
+    go : (o : Option Fail) → o ≡ Some x → (us : List Ask) → follow (by_rows_phrase o came.after e.code >>= (λ r. Done (behind_delivery e r))) us ≡ Whole s2 [] → us ≡ []
+    go None f us w = cc
+    go (Some y) f [] w = refl
+    go (Some y) f (u ∷ us) w = cc
+
+nothing_behind : (x : Made) (m : Attempt) (us : List Ask) (e : StepEnds x.before m us x.after) (fail : Fail) → e.came.fail ≡ Some fail → e.behind ≡ []
+nothing_behind x m us e fail fails = elim e.leaves [
+  | inl a ↦ a.nothing
+  | inr d ↦ none_behind d.event e.came fail e.behind x.after fails d.state
+]
+
+fails_first : (f : Facts) (o : Option Fail) → old_fail_of f ≡ o → IsSome o → (x : Fail) × (first_fail_of f ≡ Some x)
+fails_first f None e some = let d : false ≡ true = some in cc
+fails_first f (Some x) e some = (x, old_is_first f x e)
+
+quiet_step : (x : Made) (m : Attempt) (us : List Ask) (e : StepEnds x.before m us x.after) → IsBehindReads x.cycles us → FailsInOldTask m e.own → AllByRecursion (λ (t : Ask). t.write ≡ false) x.cycles
 quiet_step x m us e b some =
     let P : Ask → Type 0 = λ t. t.write ≡ false in
     let front : AllByRecursion P b.before = weaker (λ (t : Ask). (t.write ≡ false) × (is_of_a_switch t.role ≡ false)) P (λ t h. h.0) b.before b.reads in
-    let own : AllByRecursion P us = kept_reads m us (facts_of m (seen us)) _ e.came.after (old_fail_of (facts_of m (seen us))) some e.ends.ends in
-    subst (AllByRecursion P) (sym b.joined) (all_of_both P b.before us front own)
+    let f : Facts = facts_of m (seen e.own) in
+    let own : AllByRecursion P e.own = kept_reads m e.own f e.begun e.came.after (old_fail_of f) some e.ends.ends in
+    let first = fails_first f (old_fail_of f) refl some in
+    let behind : AllByRecursion P e.behind = subst (AllByRecursion P) (sym (nothing_behind x m us e first.0 (e.ends.first ∙ first.1))) tt in
+    let all : AllByRecursion P us = subst (AllByRecursion P) (sym e.joined) (all_of_both P e.own e.behind own behind) in
+    subst (AllByRecursion P) (sym b.joined) (all_of_both P b.before us front all)
 
 -- ---- a whole step
 

@@ -40,18 +40,18 @@ pub record AreStepsOf (I : Image) (H : List Cycle) (p : ℕ) (xs : List Made) : 
 abbrev pub attempts_in : Made → List (Attempt × List Ask)
 attempts_in x = attempts (step_phrase x.before) x.cycles
 
--- rows 1 to 7 of the check table don't all hold of what was known when the attempt began and of what its own cycles read
+-- rows 1 to 7 of the check table don't all hold of what was known when the attempt began and of what the switch's own cycles read
 abbrev pub FailsInOldTask : Attempt → List Ask → Type 0
 FailsInOldTask m us = IsSome (old_fail_of (facts_of m (seen us)))
 
--- An attempt in a step, by its own cycles us, ends whole or at the first row that fails, and the step comes to what that makes of it. The
--- cycles of the step before it are reads, of which none is of a switch; and where one of rows 1 to 7 fails, no cycle of the
--- whole step is a write.
+-- An attempt in a step, by the cycles us from where it begins, ends whole or at the first row that fails, and the step comes to what that
+-- makes of it. The cycles of the step before it are reads, of which none is of a switch; and where one of rows 1 to 7 fails, no
+-- cycle of the whole step is a write.
 -- Source: Intel 80386 PRM 7.5; docs/DECISIONS.md, "The check table of a task switch"
 pub record AttemptEnds (x : Made) (m : Attempt) (us : List Ask) : Type 0 where
   pub ends : StepEnds x.before m us x.after
   pub behind : IsBehindReads x.cycles us
-  pub quiet : FailsInOldTask m us → AllByRecursion (λ (t : Ask). t.write ≡ false) x.cycles
+  pub quiet : FailsInOldTask m ends.own → AllByRecursion (λ (t : Ask). t.write ≡ false) x.cycles
 
 -- Each attempt in a step ends so; and a step without one has no cycle of a switch.
 pub record EndsItsSwitches (x : Made) : Type 0 where

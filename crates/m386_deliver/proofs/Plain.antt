@@ -1,43 +1,48 @@
 -- What deliveries and returns from handlers owe.
-use Rattle.std.proofs.Common.{◌≡◌, ℕ, zero, suc, arith, ◌+◌, ◌-◌, ◌*◌, ◌%◌, ◌^◌, ◌||◌, ◌∙◌, refl, sym, inl, List, [], ◌∷◌, length, Bool, true, false, Option, Some, None}
+use Rattle.std.proofs.Common.{◌≡◌, ℕ, zero, suc, arith, ◌+◌, ◌-◌, ◌*◌, ◌%◌, ◌^◌, ◌||◌, ◌∙◌, cond, refl, sym, inl, List, [], ◌∷◌, length, Bool, true, false, Option, Some, None}
 use Rattle.m386_base.specs.declared.ask.Ask.{Ask}
 use Rattle.m386_base.specs.declared.ask.Role.TheVariants as roles
 use Rattle.m386_base.specs.declared.desc.Desc.{Desc}
+use Rattle.m386_base.specs.declared.fault.Fault.{Fault}
 use Rattle.m386_base.specs.declared.flags.Flag.TheVariants as flags
 use Rattle.m386_base.specs.declared.number.Width.{Width}
 use Rattle.m386_base.specs.Bus.{cycle_of}
 use Rattle.m386_base.specs.Exceptions.{vector_of}
 use Rattle.m386_base.specs.declared.exception.Exception.TheVariants as exceptions
 use Rattle.m386_base.specs.Flags.{has_flag}
-use Rattle.m386_base.specs.Phrase.{Phrase, Done, Faults, Asks, Begins}
+use Rattle.m386_base.specs.Phrase.{Phrase, Done, Faults, Asks, Begins, ◌>>=◌}
 use Rattle.m386_base.specs.Plain.{Plain}
-use Rattle.m386_base.proofs.Plain.{plain_done, plain_ends, plain_faults, plain_if, plain_more, plain_then}
+use Rattle.m386_base.proofs.Plain.{plain_done, plain_either, plain_ends, plain_if, plain_then}
+use Rattle.m386_checks.specs.declared.facts.Fail.{Fail}
 use Rattle.m386_desc.specs.Access.{kind_of}
 use Rattle.m386_desc.specs.Selector.{is_in_table}
 use Rattle.m386_opmap.specs.declared.op.Op.{Op}
 use Rattle.m386_state.specs.declared.event.Event.{Event}
 use Rattle.m386_state.specs.declared.proc.Proc.{Proc}
+use Rattle.m386_state.specs.declared.segment.TableReg.{TableReg}
 use Rattle.m386_state.specs.Start.{cpl_of}
 use Rattle.m386_access.specs.Ordinary.{Ordinary, Keeps, PlainFrom, has_nested, is_nested, popped}
 use Rattle.m386_access.proofs.Phrases.{Anything, Stays, keeps_stays, stays_same}
 use Rattle.m386_access.proofs.Popped.{Popped, keeps_popped}
 use Rattle.m386_segload.specs.Descriptors.{descriptor_phrase}
-use Rattle.m386_segload.specs.Rules.{target_rules}
+use Rattle.m386_segload.specs.Rules.{first_broken, need, event_gate_rules, target_rules}
 use Rattle.m386_segload.proofs.Loads.{GotDesc, plain_descriptor, plain_need, take_then}
 use Rattle.m386_stack.specs.declared.stack.Stack.{Stack}
 use Rattle.m386_stack.specs.Names.{size_of}
 use Rattle.m386_stack.specs.Stack.{moved, own_stack}
 use Rattle.m386_stack.proofs.Images.{pop_flags_then, popped_nested, is_length}
-use Rattle.m386_stack.proofs.Pushed.{pop_then, pushes_then}
+use Rattle.m386_stack.proofs.Pushed.{pop_then, push_then, pushes_then}
+use Rattle.m386_transfer.specs.declared.executed.Executed.{Executed}
+use Rattle.m386_transfer.specs.declared.executed.Executed.TheVariants.{Ran, Came}
 use Rattle.m386_transfer.specs.declared.place.Target.{Target}
 use Rattle.m386_transfer.specs.Gate.{gate_of}
 use Rattle.m386_transfer.specs.Place.{level_of, target_fault}
-use Rattle.m386_transfer.specs.Tried.{KeepsRun, TriedFrom}
+use Rattle.m386_transfer.specs.Tried.{AreReads, KeepsRun, Tried, TriedFrom}
 use Rattle.m386_transfer.proofs.Plain.{return_then, stack_for_then, stays_placed}
-use Rattle.m386_transfer.proofs.Tried.{tried_if, tried_faults, tried_simply, tried_switch}
-use Rattle.m386_deliver.specs.Deliver.{gate_target, frame_of, entered, framed_phrase, pushed_phrase, through_phrase, deliver_phrase}
+use Rattle.m386_transfer.proofs.Tried.{ReadsAlone, descriptor_alone, reads_done, reads_faults, reads_since, reads_then, tried_bind, tried_done, tried_faults, tried_if, tried_simply, tried_switch, tried_within}
+use Rattle.m386_deliver.specs.Deliver.{gate_target, frame_of, entered, framed_phrase, pushed_phrase, through_phrase, gate_brief, leads_to_task, by_gate_phrase, entered_phrase, pushed_on_phrase, with_code_phrase, by_rows_phrase, behind_gate_phrase}
 use Rattle.m386_deliver.specs.Exec.{asked_for, handler_work_of, on_overflow_phrase, work_phrase, exec_phrase}
-use Rattle.m386_deliver.specs.Gate.{is_from_outside, entry_phrase, gate_phrase}
+use Rattle.m386_deliver.specs.Gate.{is_from_outside, gate_candidate, entry_phrase, gate_phrase}
 use Rattle.m386_deliver.specs.Iret.{behind_image_phrase, image_phrase, handler_left_phrase, back_brief, returned_phrase}
 use Rattle.m386_deliver.specs.declared.exec.HandlerWork.{HandlerWork}
 use Rattle.m386_deliver.specs.declared.exec.HandlerWork.TheVariants.{Enter, EnterOnOverflow, Leave}
@@ -74,17 +79,65 @@ plain_pushed p ts e g t st =
     plain_need p.gdtr 12 (Keeps p) ts (target_fault t) _
     (pushes_then p.gdtr 12 (Keeps p) ts st 4 vs _ (frame_is_short p t.level e.code) (λ us top. plain_done (12 - length vs * 2) (Ordinary p.gdtr) (Keeps p) us _ (keeps_entered p us g t top)))
 
-plain_through : (p : Proc) (ts : List Ask) (e : Event) (g : Desc) → Plain 26 (Ordinary p.gdtr) (Keeps p) ts (through_phrase p e g)
+pub plain_through : (p : Proc) (ts : List Ask) (e : Event) (g : Desc) → Plain 26 (Ordinary p.gdtr) (Keeps p) ts (through_phrase p e g)
 unfolding through_phrase
 plain_through p ts e g =
     take_then p 26 (Keeps p) ts target_rules (cpl_of p) (is_from_outside e.cause) (gate_of g).selector _ refl refl (λ us d.
     stack_for_then p 21 (Keeps p) us (level_of p d) (is_from_outside e.cause) _ refl (λ vs st.
     plain_pushed p vs e g (gate_target p g d) st))
 
--- A delivery: at most thirty cycles, each an ordinary one.
-pub plain_deliver : (p : Proc) (ts : List Ask) (e : Event) → Plain 30 (Ordinary p.gdtr) (Keeps p) ts (deliver_phrase p e)
-unfolding deliver_phrase
-plain_deliver p ts e = plain_then 4 26 (Ordinary p.gdtr) Anything (Keeps p) ts (gate_phrase p e) _ (plain_gate p ts e) (λ us g x. plain_through p us e g)
+-- the gate is read, and nothing else
+need_alone : (o : Option Fault) (t : Phrase Desc) → ReadsAlone t → ReadsAlone (need o t)
+need_alone (Some x) t h = reads_faults Desc x
+need_alone None t h = h
+
+entry_alone : (p : Proc) (vector : ℕ) → ReadsAlone (entry_phrase p vector)
+unfolding entry_phrase
+entry_alone p vector = go (is_in_table (vector * 8) p.idtr.limit)
+  where
+    at : ℕ
+    at = (p.idtr.base + vector * 8) % 2 ^ 32
+
+    go : (b : Bool) → ReadsAlone (cond b (descriptor_phrase roles.Idt at >>= (λ d. Done (Some d))) (Done None))
+    go true = reads_then _ _ (descriptor_alone roles.Idt at) (λ d. reads_done _)
+    go false = reads_done None
+
+gate_alone : (p : Proc) (e : Event) → ReadsAlone (gate_phrase p e)
+unfolding gate_phrase
+gate_alone p e = reads_then _ _ (entry_alone p e.vector) (λ found. need_alone (first_broken event_gate_rules (gate_candidate p e found)) _ (reads_done _))
+
+-- by the type of the gate
+by_gate_tried : (p : Proc) (us : List Ask) (e : Event) (g : Desc) → AreReads us → Tried 113 (Ordinary p.gdtr) (KeepsRun p) p us (by_gate_phrase p e g)
+by_gate_tried p us e g r =
+    tried_if 113 (Ordinary p.gdtr) (KeepsRun p) p us (leads_to_task (kind_of g)) _ _ (tried_switch 113 (Ordinary p.gdtr) (KeepsRun p) p (gate_brief e g) us refl (omega arith) r)
+    (tried_simply 26 113 p us (through_phrase p e g) (omega arith) (plain_through p us e g))
+
+-- An event through its gate: at most 117 cycles, ordinary ones or a switch behind reads.
+pub tried_entered : (p : Proc) (e : Event) → TriedFrom 117 p (entered_phrase p e)
+unfolding entered_phrase
+tried_entered p e =
+    tried_bind 4 117 (Ordinary p.gdtr) (λ us g. Anything us g × AreReads us) (KeepsRun p) p [] (gate_phrase p e) _ (omega arith)
+    (reads_since 4 (Ordinary p.gdtr) Anything [] (gate_phrase p e) tt (gate_alone p e) (plain_gate p [] e))
+    (λ us g h. by_gate_tried p us e g h.1)
+
+-- The error code in a new task: at most two cycles, pushes.
+plain_pushed_on : (gdt : TableReg) (p : Proc) (ts : List Ask) (value : ℕ) → Plain 2 (Ordinary gdt) Anything ts (pushed_on_phrase p value)
+unfolding pushed_on_phrase
+plain_pushed_on gdt p ts value = push_then gdt 2 Anything ts (own_stack p) 4 value _ refl (λ us st. plain_done 0 (Ordinary gdt) Anything us _ tt)
+
+plain_with_code : (gdt : TableReg) (ts : List Ask) (p : Proc) (code : Option ℕ) → Plain 2 (Ordinary gdt) Anything ts (with_code_phrase p code)
+plain_with_code gdt ts p None = plain_done 2 (Ordinary gdt) Anything ts _ tt
+plain_with_code gdt ts p (Some code) =
+    plain_either 2 0 (Ordinary gdt) Anything Anything ts (pushed_on_phrase p code) _ _ (plain_pushed_on gdt p ts code)
+    (λ us after x. plain_done 0 (Ordinary gdt) Anything us _ tt) (λ us f. plain_done 0 (Ordinary gdt) Anything us _ tt)
+
+pub plain_behind_gate : (gdt : TableReg) (ts : List Ask) (code : Option ℕ) (x : Executed) → Plain 2 (Ordinary gdt) Anything ts (behind_gate_phrase code x)
+plain_behind_gate gdt ts code (Ran r) = plain_done 2 (Ordinary gdt) Anything ts r tt
+plain_behind_gate gdt ts code (Came r) = go r.fail
+  where
+    go : (o : Option Fail) → Plain 2 (Ordinary gdt) Anything ts (by_rows_phrase o r.after code)
+    go None = plain_with_code gdt ts r.after code
+    go (Some x) = plain_done 2 (Ordinary gdt) Anything ts _ tt
 
 -- What holds of the cycles before a phrase, and stays with each further one, holds at its end.
 plain_since : {A : Type 0} (n : ℕ) (may : List Ask → Ask → Type 0) (ends : List Ask → A → Type 0) (H : List Ask → Type 0) → ((us : List Ask) (t : Ask) → H us → H (t ∷ us)) → (ts : List Ask) (t : Phrase A) → H ts → Plain n may ends ts t → Plain n may (λ us a. ends us a × H us) ts t
@@ -138,19 +191,19 @@ tried_returned p w =
     tried_if 113 (Ordinary p.gdtr) (KeepsRun p) p [] (has_flag flags.NestedTask p.eflags) _ _ (tried_switch 113 (Ordinary p.gdtr) (KeepsRun p) p back_brief [] refl (omega arith) tt)
     (tried_simply 20 113 p [] (handler_left_phrase p (size_of w)) (omega arith) (plain_left p w))
 
-on_overflow_plain : (p : Proc) → PlainFrom 30 p (on_overflow_phrase p)
+on_overflow_tried : (p : Proc) → TriedFrom 117 p (on_overflow_phrase p)
 unfolding on_overflow_phrase
-on_overflow_plain p =
-    plain_if 30 (Ordinary p.gdtr) (Keeps p) [] (has_flag flags.Overflow p.eflags) _ _ (plain_deliver p [] (asked_for (vector_of exceptions.Overflow)))
-    (plain_done 30 (Ordinary p.gdtr) (Keeps p) [] p (keeps_stays p [] p (stays_same p)))
+on_overflow_tried p =
+    tried_if 117 (Ordinary p.gdtr) (KeepsRun p) p [] (has_flag flags.Overflow p.eflags) _ _ (tried_entered p (asked_for (vector_of exceptions.Overflow)))
+    (tried_done 117 (Ordinary p.gdtr) (KeepsRun p) p [] _ (keeps_stays p [] p (stays_same p)))
 
 -- each kind of work, one line
-work_tried : (work : Option HandlerWork) (w : Width) (p : Proc) → TriedFrom 113 p (work_phrase work w p)
-work_tried (Some (Enter vector)) w p = tried_simply 30 113 p [] _ (omega arith) (plain_deliver p [] (asked_for vector))
-work_tried (Some EnterOnOverflow) w p = tried_simply 30 113 p [] _ (omega arith) (on_overflow_plain p)
-work_tried (Some Leave) w p = tried_returned p w
-work_tried None w p = tried_faults 113 (Ordinary p.gdtr) (KeepsRun p) p [] _
+work_tried : (work : Option HandlerWork) (w : Width) (p : Proc) → TriedFrom 117 p (work_phrase work w p)
+work_tried (Some (Enter vector)) w p = tried_entered p (asked_for vector)
+work_tried (Some EnterOnOverflow) w p = on_overflow_tried p
+work_tried (Some Leave) w p = tried_within 113 117 (Ordinary p.gdtr) (KeepsRun p) p [] _ (omega arith) (tried_returned p w)
+work_tried None w p = tried_faults 117 (Ordinary p.gdtr) (KeepsRun p) p [] _
 
-pub exec_tried : (op : Op) (p : Proc) → TriedFrom 113 p (exec_phrase op p)
+pub exec_tried : (op : Op) (p : Proc) → TriedFrom 117 p (exec_phrase op p)
 unfolding exec_phrase
 exec_tried op p = work_tried (handler_work_of op.name op.args.items) op.width p

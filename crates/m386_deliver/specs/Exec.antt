@@ -5,7 +5,7 @@ use Rattle.m386_base.specs.declared.flags.Flag.TheVariants as flags
 use Rattle.m386_base.specs.declared.number.Width.{Width}
 use Rattle.m386_base.specs.Exceptions.{undefined_opcode_of, vector_of}
 use Rattle.m386_base.specs.Flags.{has_flag}
-use Rattle.m386_base.specs.Phrase.{Phrase, Done, Faults}
+use Rattle.m386_base.specs.Phrase.{Phrase, Faults}
 use Rattle.m386_opmap.specs.declared.name.Name.{Name}
 use Rattle.m386_opmap.specs.declared.name.Name.TheVariants as names
 use Rattle.m386_opmap.specs.declared.op.Arg.{Arg}
@@ -15,8 +15,8 @@ use Rattle.m386_state.specs.declared.event.Cause.TheVariants.{Soft}
 use Rattle.m386_state.specs.declared.event.Event.{Event}
 use Rattle.m386_state.specs.declared.proc.Proc.{Proc}
 use Rattle.m386_transfer.specs.declared.executed.Executed.{Executed}
-use Rattle.m386_transfer.specs.Executed.{simply}
-use Rattle.m386_deliver.specs.Deliver.{deliver_phrase}
+use Rattle.m386_transfer.specs.Executed.{ran_whole}
+use Rattle.m386_deliver.specs.Deliver.{entered_phrase}
 use Rattle.m386_deliver.specs.Iret.{returned_phrase}
 use Rattle.m386_deliver.specs.declared.exec.HandlerWork.{HandlerWork}
 use Rattle.m386_deliver.specs.declared.exec.HandlerWork.TheVariants.{Enter, EnterOnOverflow, Leave}
@@ -35,7 +35,7 @@ handler_work_of names.Into args = Some EnterOnOverflow
 handler_work_of names.Iret args = Some Leave
 handler_work_of _ args = None
 
--- An event that the program itself asks for.
+-- An event that the program itself asks for. It has no error code, so nothing is pushed behind a switch.
 -- Source: Intel 80386 PRM 9.1, 9.7
 abbrev pub asked_for : ℕ → Event
 asked_for vector = record { vector = vector; code = None; cause = Soft }
@@ -58,13 +58,13 @@ takes op = is_some (handler_work_of op.name op.args.items)
 
 -- INTO.
 -- Source: Intel 80386 PRM 9.8.4
-unfoldable pub on_overflow_phrase : Proc → Phrase Proc
-on_overflow_phrase p = if has_flag flags.Overflow p.eflags then deliver_phrase p (asked_for (vector_of exceptions.Overflow)) else Done p
+unfoldable pub on_overflow_phrase : Proc → Phrase Executed
+on_overflow_phrase p = if has_flag flags.Overflow p.eflags then entered_phrase p (asked_for (vector_of exceptions.Overflow)) else ran_whole p
 
 -- one case for each kind of work
 abbrev pub work_phrase : Option HandlerWork → Width → Proc → Phrase Executed
-work_phrase (Some (Enter vector)) w p = simply (deliver_phrase p (asked_for vector))
-work_phrase (Some EnterOnOverflow) w p = simply (on_overflow_phrase p)
+work_phrase (Some (Enter vector)) w p = entered_phrase p (asked_for vector)
+work_phrase (Some EnterOnOverflow) w p = on_overflow_phrase p
 work_phrase (Some Leave) w p = returned_phrase p w
 work_phrase None w p = Faults undefined_opcode_of
 

@@ -1,26 +1,30 @@
-//! The delivery of an event through an interrupt or trap gate (PRM 9.6.1).
-ghost use Rattle.std.specs.Prelude.{◌≡◌, ◌<◌, false, OnErr};
-ghost use Rattle.m386_base.specs.Phrase.{Performs, it};
-ghost use Rattle.m386_deliver.specs.Deliver.{gate_target, frame_of, handler_flags, entered, framed_phrase, pushed_phrase, through_phrase, deliver_phrase};
+//! The delivery of an event: through an interrupt or trap gate to a handler, or through a task gate to a task (PRM 9.6).
+ghost use Rattle.std.specs.Prelude.{◌≡◌, ◌<◌, false};
+ghost use Rattle.m386_access.specs.Ran.{ran};
+ghost use Rattle.m386_base.specs.Phrase.{Performs, PerformsOrStops, PerformsRan, it};
+ghost use Rattle.m386_deliver.specs.Deliver.{gate_target, frame_of, handler_flags, entered, framed_phrase, pushed_phrase, through_phrase, gate_brief, leads_to_task, by_gate_phrase, entered_phrase, pushed_on_phrase, with_code_phrase, behind_gate_phrase, met_phrase, deliver_phrase};
 
 use crate::gate::{gate_for, is_from_outside};
 use arrayvec::ArrayVec;
 use m386_access::address::segment;
 use m386_access::after::{register_of, with_flags};
+use m386_access::ran::{Ran, without_fault};
 use m386_access::registers::ESP;
 use m386_base::bus::Bus;
 use m386_base::desc::Desc;
-use m386_base::fault::Break;
+use m386_base::fault::{Break, Stop};
 use m386_base::flags::{Flag, put_flag};
+use m386_base::kind::SwitchKind;
 use m386_base::number::Flags;
 use m386_base::segments::{CS, SS};
 use m386_desc::access::kind;
 use m386_desc::kind::Kind;
 use m386_segload::load::take;
 use m386_segload::rules::TARGET_RULES;
-use m386_stack::stack::{Stack, push_all};
+use m386_stack::stack::{Stack, own_stack, push, push_all, with_stack};
 use m386_state::event::Event;
 use m386_state::proc::Proc;
+use m386_transfer::executed::{Brief, Executed, as_ran, make_switch, ran_to};
 use m386_transfer::gate::gate_of;
 use m386_transfer::place::{Target, level_of, placed, stack_for, target_fault};
 
@@ -135,27 +139,137 @@ fn through<B: Bus>(p: &Proc, bus: &mut B, event: &Event, gate: &Desc) -> Result<
     pushed(p, bus, event, gate, &gate_target(p, gate, desc), &stack)
 }
 
-/// The state behind the delivery of an event.
-#[tactic(auto, using(m386_base::proofs::Phrases::calls), unfolding(crate::specs::Deliver::deliver_phrase))]
-pub(crate) fn delivered<B: Bus>(p: &Proc, bus: &mut B, event: &Event) -> Result<Proc, Break>
+/// The switch to the task that a task gate names, with EXT as the event has it.
+fn gate_brief(event: &Event, gate: &Desc) -> Brief
+    ensures { result ≡ gate_brief event.now gate.now }
+{
+    Brief {
+        kind: SwitchKind::Event,
+        selector: gate_of(gate).selector,
+        direct: false,
+        ext: is_from_outside(event.cause),
+    }
+}
+
+/// Whether a gate of this type leads to a task.
+fn leads_to_task(kind: Kind) -> bool
+    ensures { result ≡ leads_to_task kind }
+{
+    matches!(kind, Kind::TaskGate)
+}
+
+/// Through a gate by its type.
+#[tactic(auto, using(m386_base::proofs::Phrases::calls), unfolding(m386_transfer::specs::Executed::simply))]
+fn by_gate<B: Bus>(p: &Proc, bus: &mut B, event: &Event, gate: &Desc) -> Result<Executed, Break>
     requires free { (B.view bus.old).kept ≡ false }
-    ensures cycles { Performs (deliver_phrase p.now event.now) (B.view bus.old) (B.view bus.new) it result }
+    ensures cycles { Performs (by_gate_phrase p.now event.now gate.now) (B.view bus.old) (B.view bus.new) it result }
+    ensures free { (B.view bus.new).kept ≡ false }
+{
+    if leads_to_task(kind(gate)) {
+        return make_switch(p, bus, gate_brief(event, gate));
+    }
+    let after = through(p, bus, event, gate)?;
+    Ok(ran_to(after))
+}
+
+/// An event through its gate, without the error code of a task gate.
+#[tactic(auto, using(m386_base::proofs::Phrases::calls), unfolding(crate::specs::Deliver::entered_phrase))]
+pub(crate) fn enter<B: Bus>(p: &Proc, bus: &mut B, event: &Event) -> Result<Executed, Break>
+    requires free { (B.view bus.old).kept ≡ false }
+    ensures cycles { Performs (entered_phrase p.now event.now) (B.view bus.old) (B.view bus.new) it result }
     ensures free { (B.view bus.new).kept ≡ false }
 {
     let gate = gate_for(p, bus, event)?;
-    through(p, bus, event, &gate)
+    by_gate(p, bus, event, &gate)
 }
 
-/// Delivers an event: the processor goes on in its handler, with EIP, CS and EFLAGS pushed, SS and ESP before them where the level
-/// is an inner one, and the error code behind them where there is one. A fault is the second fault as it was met; `second` says
-/// what becomes of it. At `Err` the state is as before (PRM 9.6).
-#[tactic(auto, using(m386_base::proofs::Phrases::calls))]
+/// A doubleword pushed on the stack of a state.
+#[tactic(auto, using(m386_base::proofs::Phrases::calls), unfolding(crate::specs::Deliver::pushed_on_phrase))]
+fn pushed_on<B: Bus>(p: &Proc, bus: &mut B, value: u32) -> Result<Proc, Break>
+    requires free { (B.view bus.old).kept ≡ false }
+    ensures cycles { Performs (pushed_on_phrase p.now value) (B.view bus.old) (B.view bus.new) it result }
+    ensures free { (B.view bus.new).kept ≡ false }
+{
+    let stack = push(bus, &own_stack(p), 4, value)?;
+    Ok(with_stack(p, &stack))
+}
+
+/// The error code, where there is one, on the stack of the new task. A fault of that push is seen there.
+#[tactic(auto, using(m386_base::proofs::Phrases::caught))]
+fn with_code<B: Bus>(p: &Proc, bus: &mut B, code: Option<u16>) -> Result<Ran, Stop>
+    requires free { (B.view bus.old).kept ≡ false }
+    ensures cycles { PerformsOrStops (with_code_phrase p.now code) (B.view bus.old) (B.view bus.new) it result }
+    ensures free { (B.view bus.new).kept ≡ false }
+{
+    let Some(code) = code else {
+        return Ok(without_fault(*p));
+    };
+    match pushed_on(p, bus, u32::from(code)) {
+        Ok(after) => Ok(without_fault(after)),
+        Err(Break::Fault(fault)) => Ok(Ran {
+            after: *p,
+            fault: Some(fault),
+        }),
+        Err(Break::Stop(stop)) => Err(stop),
+    }
+}
+
+/// What stands behind the gate: a switch that went through pushes the code; a handler has it in its frame.
+#[tactic(auto, using(m386_base::proofs::Phrases::caught))]
+fn behind_gate<B: Bus>(executed: &Executed, bus: &mut B, code: Option<u16>) -> Result<Ran, Stop>
+    requires free { (B.view bus.old).kept ≡ false }
+    ensures cycles { PerformsOrStops (behind_gate_phrase code executed.now) (B.view bus.old) (B.view bus.new) it result }
+    ensures free { (B.view bus.new).kept ≡ false }
+{
+    match executed {
+        Executed::Came(came) if came.fail.is_none() => with_code(&came.after, bus, code),
+        _ => Ok(as_ran(executed)),
+    }
+}
+
+/// The same, where a fault that comes before a handler or a task was entered is seen in the state before.
+#[tactic(auto, using(m386_base::proofs::Phrases::caught), unfolding(crate::specs::Deliver::met_phrase))]
+fn met<B: Bus>(p: &Proc, bus: &mut B, event: &Event) -> Result<Executed, Stop>
+    requires free { (B.view bus.old).kept ≡ false }
+    ensures cycles { PerformsOrStops (met_phrase p.now event.now) (B.view bus.old) (B.view bus.new) it result }
+    ensures free { (B.view bus.new).kept ≡ false }
+{
+    match enter(p, bus, event) {
+        Ok(executed) => Ok(executed),
+        Err(Break::Fault(fault)) => Ok(Executed::Ran(Ran {
+            after: *p,
+            fault: Some(fault),
+        })),
+        Err(Break::Stop(stop)) => Err(stop),
+    }
+}
+
+/// The delivery of an event: the state that it leaves, and the fault that was met on the way, which is seen in that state. Behind a
+/// task gate that is the new task where one of rows 8 to 19 of the check table fails, or the push of the error code; else it is the
+/// state before.
+#[tactic(auto, using(m386_base::proofs::Phrases::calls), unfolding(crate::specs::Deliver::deliver_phrase))]
+pub fn delivered<B: Bus>(p: &Proc, bus: &mut B, event: &Event) -> Result<Ran, Stop>
+    requires free { (B.view bus.old).kept ≡ false }
+    ensures cycles { PerformsOrStops (deliver_phrase p.now event.now) (B.view bus.old) (B.view bus.new) it result }
+    ensures free { (B.view bus.new).kept ≡ false }
+{
+    let executed = met(p, bus, event)?;
+    behind_gate(&executed, bus, event.code)
+}
+
+/// Delivers an event. Through an interrupt or trap gate the processor goes on in its handler, with EIP, CS and EFLAGS pushed, SS and
+/// ESP before them where the level is an inner one, and the error code behind them where there is one; through a task gate it goes
+/// on in the task that the gate names, with the error code pushed there as a doubleword. A fault is the second fault as it was met,
+/// and is seen in the state that `p` then has; `second` says what becomes of it. At `Err(Stop)` the state is as before (PRM 9.6).
 pub fn deliver<B: Bus>(p: &mut Proc, bus: &mut B, event: Event) -> Result<(), Break>
     requires free { (B.view bus.old).kept ≡ false }
-    ensures cycles { Performs (deliver_phrase p.old event) (B.view bus.old) (B.view bus.new) (λ _. p.new) result }
+    ensures cycles { PerformsRan (deliver_phrase p.old event) (B.view bus.old) (B.view bus.new) ran p.old p.new result }
     ensures free { (B.view bus.new).kept ≡ false }
-    ensures before { OnErr result (p.new ≡ p.old) }
 {
-    *p = delivered(p, bus, &event)?;
-    Ok(())
+    let ran = delivered(p, bus, &event)?;
+    *p = ran.after;
+    match ran.fault {
+        Some(fault) => Err(Break::Fault(fault)),
+        None => Ok(()),
+    }
 }

@@ -5,7 +5,7 @@ ghost use Rattle.m386_base.specs.Phrase.{Performs, PerformsOrStops, PerformsRan,
 ghost use Rattle.m386_transfer.specs.Executed.{told};
 ghost use Rattle.m386_deliver.specs.Exec.{vector_in, handler_work_of, asked_for, work_delivers, delivers, takes, on_overflow_phrase, work_phrase, exec_phrase};
 
-use crate::deliver::delivered;
+use crate::deliver::enter;
 use crate::iret::returned;
 use m386_access::ran::Ran;
 use m386_base::bus::Bus;
@@ -93,19 +93,19 @@ pub fn takes(op: &Op) -> bool
 
 /// INTO (PRM 9.8.4).
 #[tactic(auto, using(m386_base::proofs::Phrases::calls), unfolding(crate::specs::Exec::on_overflow_phrase))]
-fn enter_on_overflow<B: Bus>(p: &Proc, bus: &mut B) -> Result<Proc, Break>
+fn enter_on_overflow<B: Bus>(p: &Proc, bus: &mut B) -> Result<Executed, Break>
     requires free { (B.view bus.old).kept ≡ false }
     ensures cycles { Performs (on_overflow_phrase p.now) (B.view bus.old) (B.view bus.new) it result }
     ensures free { (B.view bus.new).kept ≡ false }
 {
     if has_flag(Flag::Overflow, p.eflags) {
-        return delivered(p, bus, &asked_for(Exception::Overflow.vector()));
+        return enter(p, bus, &asked_for(Exception::Overflow.vector()));
     }
-    Ok(*p)
+    Ok(ran_to(*p))
 }
 
 /// One case for each kind of work.
-#[tactic(auto, using(m386_base::proofs::Phrases::calls), unfolding(m386_transfer::specs::Executed::simply))]
+#[tactic(auto, using(m386_base::proofs::Phrases::calls))]
 fn perform<B: Bus>(
     work: Option<HandlerWork>,
     width: Width,
@@ -117,15 +117,16 @@ fn perform<B: Bus>(
     ensures free { (B.view bus.new).kept ≡ false }
 {
     match work {
-        Some(HandlerWork::Enter(vector)) => Ok(ran_to(delivered(p, bus, &asked_for(vector))?)),
-        Some(HandlerWork::EnterOnOverflow) => Ok(ran_to(enter_on_overflow(p, bus)?)),
+        Some(HandlerWork::Enter(vector)) => enter(p, bus, &asked_for(vector)),
+        Some(HandlerWork::EnterOnOverflow) => enter_on_overflow(p, bus),
         Some(HandlerWork::Leave) => returned(p, bus, width),
         None => Err(Break::Fault(undefined_opcode())),
     }
 }
 
-/// An operation of this crate, from a state with EIP behind it, where a handler returns to. IRET with NT set comes to a switch, and
-/// answers what that came to; a fault is one of the others, and is seen in the state before the instruction.
+/// An operation of this crate, from a state with EIP behind it, where a handler returns to. IRET with NT set and an interrupt through
+/// a task gate come to a switch, and answer what that came to; a fault is one of the others, and is seen in the state before the
+/// instruction.
 #[tactic(auto, using(m386_base::proofs::Phrases::calls), unfolding(crate::specs::Exec::exec_phrase))]
 pub fn attempt<B: Bus>(p: &Proc, op: &Op, bus: &mut B) -> Result<Executed, Break>
     requires free { (B.view bus.old).kept ≡ false }

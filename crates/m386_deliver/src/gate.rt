@@ -90,7 +90,7 @@ fn gate_or_fault<B: Bus>(
 }
 
 /// The gate of an event, as a descriptor. A fault comes exactly by the first rule that is broken: past the limit of the IDT, no
-/// interrupt or trap gate, or below CPL where the program itself asks for the event, each #GP(IDT); not present, #NP(IDT).
+/// task, interrupt or trap gate, or below CPL where the program itself asks for the event, each #GP(IDT); not present, #NP(IDT).
 #[tactic(auto, using(m386_base::proofs::Phrases::calls), unfolding(crate::specs::Gate::gate_phrase))]
 pub(crate) fn gate_for<B: Bus>(p: &Proc, bus: &mut B, event: &Event) -> Result<Desc, Break>
     requires free { (B.view bus.old).kept ≡ false }

@@ -25,9 +25,10 @@ conforms_or_has_level level d = is_conforming d || has_level level d
 abbrev pub is_reached_directly : ℕ → ℕ → Desc → Bool
 is_reached_directly level rpl d = if is_conforming d then nat_le (dpl_of d) level else nat_le rpl level && has_level level d
 
--- An interrupt or a trap gate.
--- Own choice: docs/DECISIONS.md, "Task gates before they are built"
+-- A gate that stands in the IDT: a task gate, an interrupt gate or a trap gate.
+-- Source: Intel 80386 PRM 9.5
 abbrev pub is_event_kind : Kind → Bool
+is_event_kind kinds.TaskGate = true
 is_event_kind kinds.IntGate = true
 is_event_kind kinds.TrapGate = true
 is_event_kind _ = false

@@ -59,12 +59,15 @@ fn reached_directly(desc: Option<Desc>, level: u8, rpl: u8) -> bool
     }
 }
 
-/// Whether it is an interrupt or a trap gate.
+/// Whether it is a gate that stands in the IDT: a task gate, an interrupt gate or a trap gate (PRM 9.5).
 fn event_gate(desc: Option<Desc>) -> bool
     ensures { result ≡ given desc is_event_gate }
 {
     match desc {
-        Some(d) => matches!(kind(&d), Kind::IntGate | Kind::TrapGate),
+        Some(d) => matches!(
+            kind(&d),
+            Kind::TaskGate | Kind::IntGate | Kind::TrapGate
+        ),
         None => false,
     }
 }

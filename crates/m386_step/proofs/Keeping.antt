@@ -1,5 +1,5 @@
 -- What a step keeps in which no attempt at a task switch is made.
-use Rattle.std.proofs.Common.{◌≡◌, ℕ, zero, suc, ◌++◌, List, [], ◌∷◌, refl, sym, subst, ap, ◌⊎◌, inl, inr, Bool, true, false, cond, ◌==◌, ◌&&◌, ◌||◌, nat_lt, ◌-◌, ◌%◌, ◌+◌, ◌^◌, Option, Some, None}
+use Rattle.std.proofs.Common.{◌≡◌, ℕ, zero, suc, ◌++◌, List, [], ◌∷◌, refl, subst, ◌⊎◌, inl, inr, Bool, true, false, cond, ◌==◌, ◌&&◌, ◌||◌, nat_lt, ◌-◌, ◌%◌, ◌+◌, ◌^◌, Option, Some, None}
 use Rattle.m386_base.specs.declared.ask.Ask.{Ask}
 use Rattle.m386_base.specs.declared.ask.Role.{Role}
 use Rattle.m386_base.specs.declared.ask.Role.TheVariants as roles
@@ -10,7 +10,7 @@ use Rattle.m386_base.specs.Bytes.{has_nt}
 use Rattle.m386_base.specs.Flags.{has_flag}
 use Rattle.m386_base.specs.Laws.{attempts}
 use Rattle.m386_base.specs.Phrase.{Phrase, Done, Faults, Asks, Begins, ◌>>=◌, either, one, follow, Whole, Wrong, matches, answer_of, role_number}
-use Rattle.m386_base.specs.Plain.{Plain, behind}
+use Rattle.m386_base.specs.Plain.{behind}
 use Rattle.m386_base.proofs.Matched.{cycle_matched}
 use Rattle.m386_decode.specs.declared.decoded.Decoded.{Decoded}
 use Rattle.m386_opmap.specs.declared.op.Op.{Op}
@@ -22,11 +22,12 @@ use Rattle.m386_state.specs.declared.proc.Mode.{Mode}
 use Rattle.m386_state.specs.declared.proc.Mode.TheVariants.{Running, Halted, Shutdown}
 use Rattle.m386_state.specs.declared.proc.Proc.{Proc}
 use Rattle.m386_access.specs.After.{at_eip}
-use Rattle.m386_access.specs.Ordinary.{Ordinary, has_role, is_nested, popped, Keeps}
-use Rattle.m386_deliver.specs.Deliver.{deliver_phrase}
+use Rattle.m386_access.specs.Ordinary.{has_role, is_nested, popped}
+use Rattle.m386_access.specs.declared.ran.Ran.{Ran as RanRecord}
+use Rattle.m386_deliver.specs.Deliver.{entered_phrase, behind_gate_phrase, met_phrase, deliver_phrase}
 use Rattle.m386_deliver.specs.Exec.{delivers}
 use Rattle.m386_deliver.specs.Second.{second_of}
-use Rattle.m386_deliver.proofs.Plain.{plain_deliver}
+use Rattle.m386_deliver.proofs.Plain.{tried_entered}
 use Rattle.m386_string.specs.Element.{element_of}
 use Rattle.m386_string.specs.Repetition.{is_followed, behind_turn}
 use Rattle.m386_switch.specs.Switch.{switch_phrase}
@@ -36,13 +37,13 @@ use Rattle.m386_transfer.specs.declared.executed.Executed.TheVariants.{Ran, Came
 use Rattle.m386_transfer.specs.Tried.{Tried}
 use Rattle.m386_step.specs.declared.fetch.Reader.{Reader}
 use Rattle.m386_step.specs.Code.{read_on, further_phrase, decode_phrase}
-use Rattle.m386_step.specs.Events.{due, at_delivery, at_delivery_of, behind_second, delivery_phrase}
+use Rattle.m386_step.specs.Events.{due, at_delivery, at_delivery_of, behind_second, behind_met, delivery_phrase}
 use Rattle.m386_step.specs.Fetch.{byte_phrase, group_phrase, linear, first_reader, taken, fetch_ask}
 use Rattle.m386_step.specs.Instruction.{behind_operation, operation_phrase, decoded_phrase, instruction_phrase}
 use Rattle.m386_step.specs.Keeping.{KeepsTask}
 use Rattle.m386_step.specs.Settled.{settled}
 use Rattle.m386_step.specs.Step.{start_phrase, running_phrase, turn_phrase, event_or_turn, start_or_event, step_phrase}
-use Rattle.m386_step.proofs.Ordinary.{KeepsUnclaimed, lawful_operation}
+use Rattle.m386_step.proofs.Ordinary.{KeepsUnclaimed, lawful_operation, lawful_tried}
 
 -- Behind the cycles ts, the newest first, each way through a phrase on which no attempt begins ends in what P holds of.
 unfoldable pub Calm : {A : Type 0} → (List Ask → A → Type 0) → List Ask → Phrase A → Type 0
@@ -224,24 +225,32 @@ calm_turn Running p =
 calm_turn Halted p = calm_done (KeepsTask p) [] p (keeps_same p [])
 calm_turn Shutdown p = calm_done (KeepsTask p) [] p (keeps_same p [])
 
--- a delivery
-calm_plain : (n : ℕ) (p : Proc) (us : List Ask) (t : Phrase Proc) → Plain n (Ordinary p.gdtr) (Keeps p) us t → Calm (KeepsTask p) us t
-unfolding Plain Calm
-calm_plain n p us (Done after) h = record { tr = inl h.tr; gdtr = h.gdtr; nested = h.nested }
-calm_plain n p us (Faults f) h = tt
-calm_plain n p us (Begins m t) h = tt
-calm_plain zero p us (Asks q k) h = absurd h
-calm_plain (suc n) p us (Asks q k) h = λ v. calm_plain n p (cycle_of q v ∷ us) (k v) (h.1 v)
+-- a delivery: behind its gate, and with the fault that was met
+abbrev KeepsAfter : Proc → List Ask → RanRecord → Type 0
+KeepsAfter p us r = KeepsTask p us r.after
 
-keeps_second : (p : Proc) (us : List Ask) (e : Option Event) → KeepsTask p us (behind_second p e)
-keeps_second p us (Some e) = record { tr = inl refl; gdtr = inl refl; nested = λ h. inl h }
-keeps_second p us None = record { tr = inl refl; gdtr = inl refl; nested = λ h. inl h }
+calm_behind_gate : (p : Proc) (us : List Ask) (code : Option ℕ) (x : Executed) → KeepsRan p us x → Calm (KeepsAfter p) us (behind_gate_phrase code x)
+unfolding KeepsRan
+calm_behind_gate p us code (Ran r) k = calm_done (KeepsAfter p) us r k
+calm_behind_gate p us code (Came r) k = absurd k
+
+keeps_second : (p : Proc) (us : List Ask) (after : Proc) (e : Option Event) → KeepsTask p us after → KeepsTask p us (behind_second after e)
+keeps_second p us after (Some e) k = record { tr = k.tr; gdtr = k.gdtr; nested = k.nested }
+keeps_second p us after None k = record { tr = k.tr; gdtr = k.gdtr; nested = k.nested }
+
+keeps_met : (p : Proc) (us : List Ask) (e : Event) (after : Proc) (fault : Option Fault) → KeepsTask p us after → KeepsTask p us (behind_met e after fault)
+keeps_met p us e after (Some f) k = keeps_second p us after (second_of e f) k
+keeps_met p us e after None k = k
 
 calm_delivery : (p : Proc) (e : Event) → Calm (KeepsTask p) [] (delivery_phrase p e)
-unfolding delivery_phrase
+unfolding delivery_phrase deliver_phrase met_phrase KeepsRan
 calm_delivery p e =
-    calm_either (KeepsTask p) (KeepsTask p) [] (deliver_phrase p e) _ _ (calm_plain 30 p [] (deliver_phrase p e) (plain_deliver p [] e)) (λ us after k. calm_done (KeepsTask p) us after k)
-    (λ us f. calm_done (KeepsTask p) us _ (keeps_second p us (second_of e f)))
+    calm_then (KeepsAfter p) (KeepsTask p) [] (deliver_phrase p e) _
+    (calm_then (KeepsRan p) (KeepsAfter p) [] (met_phrase p e) _
+    (calm_either (KeepsRan p) (KeepsRan p) [] (entered_phrase p e) _ _ (calm_tried 117 p [] [] (entered_phrase p e) (lawful_tried 117 p [] (entered_phrase p e) (tried_entered p e)))
+    (λ us x k. calm_done (KeepsRan p) us x k) (λ us f. calm_done (KeepsRan p) us _ (keeps_same p us)))
+    (λ us x k. calm_behind_gate p us e.code x k))
+    (λ us r k. calm_done (KeepsTask p) us _ (keeps_met p us e r.after r.fault k))
 
 -- what a taken event leaves as it was
 taken_keeps : (e : Option Event) (p : Proc) (us : List Ask) (after : Proc) → KeepsTask (at_delivery_of e p) us after → KeepsTask p us after

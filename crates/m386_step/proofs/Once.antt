@@ -33,7 +33,7 @@ once_turn Shutdown p = tt
 
 once_delivery : (p : Proc) (e : Event) → Once AnyGroups [] (delivery_phrase p e)
 unfolding delivery_phrase
-once_delivery p e = once_either AnyGroups [] (deliver_phrase p e) _ _ (none_once [] (deliver_phrase p e) (none_deliver p e)) (λ a. tt) (λ f. tt)
+once_delivery p e = obeys_then IsAnew with_fetched AnyGroups AnyGroups AnyGroups [] (deliver_phrase p e) _ (none_once [] (deliver_phrase p e) (none_deliver p e)) (λ later r k. tt)
 
 once_event : (due : Option Event) (p : Proc) → Once AnyGroups [] (event_or_turn due p)
 once_event (Some e) p = once_delivery (at_delivery p) e

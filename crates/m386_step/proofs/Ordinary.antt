@@ -1,25 +1,28 @@
 -- What follows for each operation from the law that it owes.
-use Rattle.std.proofs.Common.{◌≡◌, ◌≤◌, ℕ, zero, suc, List, [], ◌∷◌, ◌-◌, refl, sym, subst, inl, inr, arith, Bool, true, false, cond, ◌==◌, nat_le}
+use Rattle.std.proofs.Common.{◌≡◌, ◌≤◌, ℕ, zero, suc, List, [], ◌∷◌, refl, sym, subst, inl, inr, arith, Bool, true, false, cond, ◌==◌, nat_le, Some}
 use Rattle.m386_base.specs.declared.ask.Ask.{Ask}
 use Rattle.m386_base.specs.declared.ask.Role.{Role}
 use Rattle.m386_base.specs.declared.ask.Role.TheVariants.{Fetch}
 use Rattle.m386_base.specs.Bus.{cycle_of}
 use Rattle.m386_base.specs.Laws.{AtMost}
-use Rattle.m386_base.specs.Phrase.{Phrase, Done, Faults, Asks, Begins, ◌>>=◌, role_number}
+use Rattle.m386_base.specs.declared.fault.Fault.{Fault}
+use Rattle.m386_base.specs.Phrase.{Phrase, Done, Faults, Asks, Begins, ◌>>=◌, either, role_number}
 use Rattle.m386_opmap.specs.declared.op.Op.{Op}
 use Rattle.m386_state.specs.declared.event.Event.{Event}
 use Rattle.m386_state.specs.declared.proc.Proc.{Proc}
 use Rattle.m386_state.specs.declared.segment.TableReg.{TableReg}
-use Rattle.m386_access.specs.Ordinary.{Ordinary, Reads, Writes, Accesses, is_read_role, is_write_role, Keeps, PlainFrom}
+use Rattle.m386_access.specs.Ran.{ran}
+use Rattle.m386_access.specs.Ordinary.{Ordinary, Reads, Writes, Accesses, is_read_role, is_write_role, PlainFrom}
 use Rattle.m386_base.specs.Plain.{Plain}
 use Rattle.m386_access.proofs.Phrases.{Anything}
 use Rattle.m386_base.specs.declared.kind.SwitchKind.TheVariants.{Start}
+use Rattle.m386_base.proofs.Bounds.{at_most_either, at_most_then}
 use Rattle.m386_base.proofs.Plain.{plain_at_most, plain_within}
 use Rattle.m386_data.proofs.Plain as data_laws
 use Rattle.m386_data.specs.Exec as data_specs
 use Rattle.m386_deliver.proofs.Plain as deliver_laws
-use Rattle.m386_deliver.proofs.Plain.{plain_deliver}
-use Rattle.m386_deliver.specs.Deliver.{deliver_phrase}
+use Rattle.m386_deliver.proofs.Plain.{tried_entered, plain_behind_gate}
+use Rattle.m386_deliver.specs.Deliver.{entered_phrase, behind_gate_phrase, met_phrase, deliver_phrase}
 use Rattle.m386_deliver.specs.Exec as deliver_specs
 use Rattle.m386_gates.proofs.Plain as gates_laws
 use Rattle.m386_gates.specs.Exec as gates_specs
@@ -60,7 +63,7 @@ keeps_unclaimed p ts (Ran r) k = record { tr = inl k.tr; gdtr = k.gdtr; nested =
 keeps_unclaimed p ts (Came r) k = absurd k
 
 -- an instruction that is an ordinary one or comes to a switch
-lawful_tried : (n : ℕ) (p : Proc) (ts : List Ask) (t : Phrase Executed) → Tried n (Ordinary p.gdtr) (KeepsRun p) p ts t → Tried n (MayClaim p.gdtr) (KeepsUnclaimed p) p ts t
+pub lawful_tried : (n : ℕ) (p : Proc) (ts : List Ask) (t : Phrase Executed) → Tried n (Ordinary p.gdtr) (KeepsRun p) p ts t → Tried n (MayClaim p.gdtr) (KeepsUnclaimed p) p ts t
 unfolding Tried
 lawful_tried n p ts (Done e) h = keeps_unclaimed p ts e h
 lawful_tried n p ts (Faults f) h = tt
@@ -90,7 +93,7 @@ pub lawful_operation : (op : Op) (p : Proc) → Lawful 160 p (operation_phrase o
 unfolding operation_phrase
 lawful_operation op p =
     lawful_if p (data_specs.takes op) _ _ (lawful_simply 8 p _ refl (data_laws.exec_plain op p))
-    (lawful_if p (deliver_specs.takes op) _ _ (lawful_within 113 p _ refl (deliver_laws.exec_tried op p))
+    (lawful_if p (deliver_specs.takes op) _ _ (lawful_within 117 p _ refl (deliver_laws.exec_tried op p))
     (lawful_if p (gates_specs.takes op) _ _ (lawful_within 154 p _ refl (gates_laws.exec_tried op p))
     (lawful_if p (ports_specs.takes op) _ _ (lawful_simply 6 p _ refl (ports_laws.exec_plain op p))
     (lawful_if p (segments_specs.takes op) _ _ (lawful_simply 9 p _ refl (segments_laws.exec_plain op p))
@@ -164,12 +167,34 @@ none_tried (suc n) ends p us (Asks q k) h = (claims_fetch_none p.gdtr us q h.0, 
 pub none_operation : (op : Op) (p : Proc) → FetchesNone (operation_phrase op p)
 none_operation op p = none_tried 160 (KeepsUnclaimed p) p [] (operation_phrase op p) (lawful_operation op p)
 
--- Nor does the delivery of an event, which makes few cycles too.
-pub none_deliver : (p : Proc) (e : Event) → FetchesNone (deliver_phrase p e)
-none_deliver p e = none_plain p.gdtr 30 (Keeps p) [] (deliver_phrase p e) (plain_deliver p [] e)
+none_caught : {A : Type 0} (t : Phrase A) (w : Fault → A) → FetchesNone t → FetchesNone (either t Done (λ f. Done (w f)))
+unfolding either
+none_caught (Done a) w h = tt
+none_caught (Faults x) w h = tt
+none_caught (Begins m t) w h = none_caught t w h
+none_caught (Asks q c) w h = (h.0, λ v. none_caught (c v) w (h.1 v))
 
-pub short_deliver : (p : Proc) (e : Event) → AtMost 30 (deliver_phrase p e)
-short_deliver p e = plain_at_most 30 (Ordinary p.gdtr) (Keeps p) [] (deliver_phrase p e) (plain_deliver p [] e)
+none_then : {A B : Type 0} (t : Phrase A) (f : A → Phrase B) → FetchesNone t → ((a : A) → FetchesNone (f a)) → FetchesNone (t >>= f)
+unfolding ◌>>=◌
+none_then (Done a) f h k = k a
+none_then (Faults x) f h k = tt
+none_then (Begins m t) f h k = none_then t f h k
+none_then (Asks q c) f h k = (h.0, λ v. none_then (c v) f (h.1 v) k)
+
+-- Nor does the delivery of an event, which makes few cycles too: 117 up to its handler or task, and two for an error code there.
+pub none_deliver : (p : Proc) (e : Event) → FetchesNone (deliver_phrase p e)
+unfolding deliver_phrase met_phrase
+none_deliver p e =
+    none_then (met_phrase p e) (behind_gate_phrase e.code)
+    (none_caught (entered_phrase p e) (λ f. Ran (ran p (Some f))) (none_tried 117 (KeepsUnclaimed p) p [] (entered_phrase p e) (lawful_tried 117 p [] (entered_phrase p e) (tried_entered p e))))
+    (λ x. none_plain p.gdtr 2 Anything [] (behind_gate_phrase e.code x) (plain_behind_gate p.gdtr [] e.code x))
+
+pub short_deliver : (p : Proc) (e : Event) → AtMost 119 (deliver_phrase p e)
+unfolding deliver_phrase met_phrase
+short_deliver p e =
+    at_most_then 117 2 (met_phrase p e) _
+    (at_most_either 117 0 (entered_phrase p e) _ _ (tried_short 117 (Ordinary p.gdtr) (KeepsRun p) p [] (entered_phrase p e) (tried_entered p e)) (λ x. tt) (λ f. tt))
+    (λ x. plain_at_most 2 (Ordinary p.gdtr) Anything [] (behind_gate_phrase e.code x) (plain_behind_gate p.gdtr [] e.code x))
 
 -- and the start of a task
 pub none_start : (p : Proc) (selector : ℕ) → FetchesNone (start_phrase p selector)

@@ -1,5 +1,5 @@
 -- No step has more than 192 cycles, and none ends in a fault.
-use Rattle.std.proofs.Common.{◌≡◌, ℕ, zero, suc, ◌+◌, ◌++◌, ◌-◌, ◌%◌, List, [], ◌∷◌, arith, true, false, cond, Bool, nat_lt, ◌&&◌, ◌==◌, Option, Some, None}
+use Rattle.std.proofs.Common.{◌≡◌, ℕ, zero, suc, ◌+◌, ◌++◌, ◌-◌, ◌%◌, List, [], ◌∷◌, arith, true, false, nat_lt, ◌&&◌, ◌==◌, Option, Some, None}
 use Rattle.m386_base.specs.Laws.{AtMost, Sound}
 use Rattle.m386_base.specs.declared.kind.SwitchKind.TheVariants.{Start}
 use Rattle.m386_base.specs.Bus.{cycle_of}
@@ -9,7 +9,8 @@ use Rattle.m386_decode.specs.declared.decoded.Decoded.{Decoded}
 use Rattle.m386_opmap.specs.declared.outcome.Reading.{Reading}
 use Rattle.m386_opmap.specs.declared.outcome.Reading.TheVariants.{Spelled, More, Refused}
 use Rattle.m386_opmap.specs.Readings.{reading_of}
-use Rattle.m386_deliver.specs.Deliver.{deliver_phrase}
+use Rattle.m386_checks.specs.declared.facts.Fail.{Fail}
+use Rattle.m386_deliver.specs.Deliver.{entered_phrase, pushed_on_phrase, by_rows_phrase, behind_gate_phrase, met_phrase, deliver_phrase}
 use Rattle.m386_state.specs.declared.event.Event.{Event}
 use Rattle.m386_state.specs.declared.proc.Mode.{Mode}
 use Rattle.m386_state.specs.declared.proc.Mode.TheVariants.{Running, Halted, Shutdown}
@@ -19,7 +20,9 @@ use Rattle.m386_step.specs.Code.{read_on, further_phrase, decode_phrase}
 use Rattle.m386_step.specs.Fetch.{byte_phrase, group_phrase, linear, first_reader, taken, fetch_ask}
 use Rattle.m386_step.specs.Instruction.{decoded_phrase, instruction_phrase}
 use Rattle.m386_step.proofs.Ordinary.{short_operation, short_deliver, short_start}
-use Rattle.m386_step.specs.Events.{due, at_delivery, delivery_phrase}
+use Rattle.m386_transfer.specs.declared.executed.Executed.{Executed}
+use Rattle.m386_transfer.specs.declared.executed.Executed.TheVariants.{Ran, Came}
+use Rattle.m386_step.specs.Events.{due, at_delivery, behind_delivery, delivery_phrase}
 use Rattle.m386_step.specs.Settled.{behind_start}
 use Rattle.m386_switch.specs.declared.outcome.Switched.{Switched}
 use Rattle.m386_switch.specs.Ends.{EndsAs}
@@ -70,7 +73,7 @@ short_turn Shutdown p = tt
 
 short_delivery : (p : Proc) (e : Event) → AtMost 192 (delivery_phrase p e)
 unfolding delivery_phrase
-short_delivery p e = at_most_either 30 162 _ _ _ (short_deliver p e) (λ a. tt) (λ f. tt)
+short_delivery p e = at_most_then 119 73 _ _ (short_deliver p e) (λ r. tt)
 
 short_event : (due : Option Event) (p : Proc) → AtMost 192 (event_or_turn due p)
 short_event (Some e) p = short_delivery (at_delivery p) e
@@ -90,9 +93,28 @@ sound_turn Running p = sound_either (instruction_phrase p) _ _ (λ a. tt) (λ f.
 sound_turn Halted p = tt
 sound_turn Shutdown p = tt
 
+-- a delivery catches each fault
+sound_behind : (code : Option ℕ) (x : Executed) → Sound (behind_gate_phrase code x)
+sound_behind code (Ran r) = tt
+sound_behind code (Came r) = go r.fail code
+  where
+    go : (o : Option Fail) (c : Option ℕ) → Sound (by_rows_phrase o r.after c)
+    go None None = tt
+    go None (Some n) = sound_either (pushed_on_phrase r.after n) _ _ (λ a. tt) (λ f. tt)
+    go (Some x) c = tt
+
+sound_then : {A B : Type 0} (t : Phrase A) (f : A → Phrase B) → Sound t → ((a : A) → Sound (f a)) → Sound (t >>= f)
+unfolding ◌>>=◌
+sound_then (Done a) f h k = k a
+sound_then (Faults x) f h k = absurd h
+sound_then (Begins m t) f h k = sound_then t f h k
+sound_then (Asks q c) f h k = λ v. sound_then (c v) f (h v) k
+
 sound_event : (due : Option Event) (p : Proc) → Sound (event_or_turn due p)
-unfolding delivery_phrase
-sound_event (Some e) p = sound_either (deliver_phrase (at_delivery p) e) _ _ (λ a. tt) (λ f. tt)
+unfolding delivery_phrase deliver_phrase met_phrase
+sound_event (Some e) p =
+    sound_then (deliver_phrase (at_delivery p) e) (λ r. Done (behind_delivery e r))
+    (sound_then (met_phrase (at_delivery p) e) _ (sound_either (entered_phrase (at_delivery p) e) _ _ (λ x. tt) (λ f. tt)) (sound_behind e.code)) (λ r. tt)
 sound_event None p = sound_turn p.mode (record p { shadow = false })
 
 -- a switch ends in no fault

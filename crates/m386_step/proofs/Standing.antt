@@ -20,9 +20,11 @@ use Rattle.m386_state.specs.declared.proc.Proc.{Proc}
 use Rattle.m386_state.specs.declared.segment.TableReg.{TableReg}
 use Rattle.m386_access.specs.After.{at_eip}
 use Rattle.m386_access.specs.Ordinary.{Ordinary, Reads, Writes, Accesses, Keeps, is_read_role, is_write_role}
-use Rattle.m386_deliver.specs.Deliver.{deliver_phrase}
-use Rattle.m386_deliver.specs.Second.{second_of}
-use Rattle.m386_deliver.proofs.Plain.{plain_deliver}
+use Rattle.m386_base.specs.declared.desc.Desc.{Desc}
+use Rattle.m386_desc.specs.Access.{kind_of}
+use Rattle.m386_deliver.specs.Deliver.{through_phrase, gate_brief, leads_to_task, entered_phrase, met_phrase, deliver_phrase}
+use Rattle.m386_deliver.specs.Gate.{gate_phrase}
+use Rattle.m386_deliver.proofs.Plain.{plain_through}
 use Rattle.m386_switch.specs.declared.outcome.Switched.{Switched}
 use Rattle.m386_switch.specs.Attempts.{Outside, is_of_a_switch}
 use Rattle.m386_switch.specs.Ends.{EndsAs}
@@ -33,24 +35,17 @@ use Rattle.m386_switch.proofs.Shows.{Shows}
 use Rattle.m386_switch.proofs.Whole.{work_shows}
 use Rattle.m386_system.specs.Claims.{MayClaim}
 use Rattle.m386_transfer.specs.declared.executed.Executed.{Executed}
-use Rattle.m386_transfer.specs.Executed.{came_whole}
+use Rattle.m386_transfer.specs.Executed.{simply, came_whole, switching_phrase}
 use Rattle.m386_transfer.specs.Tried.{AreReads, IsSwitching, Tried}
 use Rattle.m386_step.specs.Code.{decode_phrase}
-use Rattle.m386_step.specs.Events.{due, at_delivery, behind_second, delivery_phrase}
+use Rattle.m386_step.specs.Events.{due, at_delivery, delivery_phrase}
 use Rattle.m386_step.specs.Fetch.{first_reader}
 use Rattle.m386_step.specs.Instruction.{behind_operation, operation_phrase, decoded_phrase, instruction_phrase}
 use Rattle.m386_step.specs.Settled.{faulted, behind_start}
 use Rattle.m386_step.specs.Step.{without_start, start_phrase, running_phrase, turn_phrase, event_or_turn, start_or_event, step_phrase}
 use Rattle.m386_step.specs.StepEnds.{IsBehindReads}
 use Rattle.m386_step.proofs.Ordinary.{KeepsUnclaimed, lawful_operation}
-use Rattle.m386_step.proofs.StepAttempts.{Looks, looks_decode, whole_instruction}
-
--- no attempt begins on any way through a phrase
-unfoldable NoneBegins : {A : Type 0} → Phrase A → Type 0
-NoneBegins (Done a) = Unit {0}
-NoneBegins (Faults f) = Unit {0}
-NoneBegins (Begins m t) = ⊥
-NoneBegins (Asks q k) = (v : ℕ) → NoneBegins (k v)
+use Rattle.m386_step.proofs.StepAttempts.{Looks, looks_decode, looks_gate, NoneBegins, by_type, task_none, whole_delivery, whole_instruction}
 
 -- Where b says that reads alone were made, an attempt begins behind reads alone, no cycle before it is one of a switch, and none
 -- begins in its midst.
@@ -209,22 +204,41 @@ running_tidy p =
     tried_tidy 160 begun p d.op true [] (operation_phrase d.op begun) (λ r. refl) (lawful_operation d.op begun))
     (λ f. tidy_done true _)
 
-plain_tidy : (n : ℕ) (gdt : TableReg) (ends : List Ask → Proc → Type 0) (b : Bool) (us : List Ask) (t : Phrase Proc) (caught : Fault → Proc) → Plain n (Ordinary gdt) ends us t → Tidy b (either t Done (λ f. Done (caught f)))
-unfolding Plain Tidy either
-plain_tidy n gdt ends b us (Done a) caught h = tt
-plain_tidy n gdt ends b us (Faults f) caught h = tt
-plain_tidy n gdt ends b us (Begins m t) caught h = absurd h
-plain_tidy zero gdt ends b us (Asks q k) caught h = absurd h
-plain_tidy (suc n) gdt ends b us (Asks q k) caught h = (ordinary_no_switch gdt us q h.0, λ v. plain_tidy n gdt ends (b && not q.write) (cycle_of q v ∷ us) (k v) caught (h.1 v))
-
 turn_tidy : (m : Mode) (p : Proc) → Tidy true (turn_phrase m p)
 turn_tidy Running p = running_tidy p
 turn_tidy Halted p = tidy_done true p
 turn_tidy Shutdown p = tidy_done true p
 
+-- a delivery: its gate, and a task or a handler
+gate_tidy : {A : Type 0} (p : Proc) (e : Event) (t : Phrase A) (f : A → Phrase Executed) → Looks t → ((a : A) → Tidy true (whole_delivery p e (f a))) → Tidy true (whole_delivery p e (t >>= f))
+unfolding Looks Tidy ◌>>=◌ either
+gate_tidy p e (Done a) f h k = k a
+gate_tidy p e (Faults x) f h k = tt
+gate_tidy p e (Begins m t) f h k = absurd h
+gate_tidy p e (Asks q c) f h k = (h.1, λ v. rw h.0 (gate_tidy p e (c v) f (h.2 v) k))
+
+handler_tidy : (n : ℕ) (gdt : TableReg) (ends : List Ask → Proc → Type 0) (b : Bool) (us : List Ask) (p : Proc) (e : Event) (t : Phrase Proc) → Plain n (Ordinary gdt) ends us t → Tidy b (whole_delivery p e (simply t))
+unfolding Plain Tidy simply ◌>>=◌ either
+handler_tidy n gdt ends b us p e (Done a) h = tt
+handler_tidy n gdt ends b us p e (Faults f) h = tt
+handler_tidy n gdt ends b us p e (Begins m t) h = absurd h
+handler_tidy zero gdt ends b us p e (Asks q k) h = absurd h
+handler_tidy (suc n) gdt ends b us p e (Asks q k) h = (ordinary_no_switch gdt us q h.0, λ v. handler_tidy n gdt ends (b && not q.write) (cycle_of q v ∷ us) p e (k v) (h.1 v))
+
+task_tidy : (p : Proc) (e : Event) (g : Desc) → Tidy true (whole_delivery p e (switching_phrase p (gate_brief e g)))
+unfolding Tidy switching_phrase switch_phrase ◌>>=◌ either
+task_tidy p e g =
+    let b = gate_brief e g in
+    (refl, task_none (λ g r. EndsAs (attempt_of p b.kind b.selector b.direct b.ext) g p r) nothing_seen (work_phrase p b.kind b.selector b.direct b.ext) p e (work_shows p b.kind b.selector b.direct b.ext))
+
+delivery_tidy : (p : Proc) (e : Event) → Tidy true (delivery_phrase p e)
+unfolding delivery_phrase deliver_phrase met_phrase entered_phrase
+delivery_tidy p e =
+    gate_tidy p e (gate_phrase p e) _ (looks_gate p e)
+    (λ g. by_type (λ t. Tidy true (whole_delivery p e t)) (leads_to_task (kind_of g)) _ _ (task_tidy p e g) (handler_tidy 26 p.gdtr (Keeps p) true [] p e (through_phrase p e g) (plain_through p [] e g)))
+
 event_tidy : (e : Option Event) (p : Proc) → Tidy true (event_or_turn e p)
-unfolding delivery_phrase
-event_tidy (Some e) p = plain_tidy 30 (at_delivery p).gdtr (Keeps (at_delivery p)) true [] (deliver_phrase (at_delivery p) e) (λ f. behind_second (at_delivery p) (second_of e f)) (plain_deliver (at_delivery p) [] e)
+event_tidy (Some e) p = delivery_tidy (at_delivery p) e
 event_tidy None p = turn_tidy p.mode (record p { shadow = false })
 
 begun_tidy : (start : Option ℕ) (p : Proc) → Tidy true (start_or_event start p)

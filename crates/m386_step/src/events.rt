@@ -1,12 +1,13 @@
 //! Events: what is delivered next, and what its delivery comes to.
 ghost use Rattle.std.specs.Prelude.{◌≡◌, false};
 ghost use Rattle.m386_base.specs.Phrase.{PerformsOrStops, it};
-ghost use Rattle.m386_step.specs.Events.{due, at_delivery, behind_second, delivery_phrase};
+ghost use Rattle.m386_step.specs.Events.{due, at_delivery, behind_second, behind_delivery, delivery_phrase};
 
+use m386_access::ran::Ran;
 use m386_base::bus::Bus;
-use m386_base::fault::{Break, Stop};
+use m386_base::fault::Stop;
 use m386_base::flags::{Flag, has_flag};
-use m386_deliver::deliver::deliver;
+use m386_deliver::deliver::delivered;
 use m386_deliver::second::second;
 use m386_state::event::{Cause, Event};
 use m386_state::proc::{Mode, Proc};
@@ -40,29 +41,36 @@ pub fn at_delivery(p: &Proc) -> Proc
     after
 }
 
-/// The state behind a fault that was met on the way.
+/// The state behind a fault that was met on the way: it takes the place of what is pending there.
 fn behind_second(p: &Proc, event: Option<Event>) -> Proc
     ensures { result ≡ behind_second p.now event }
 {
     let mut after = *p;
-    match event {
-        Some(_) => after.pending = event,
-        None => after.mode = Mode::Shutdown,
+    after.pending = event;
+    if event.is_none() {
+        after.mode = Mode::Shutdown;
     }
     after
 }
 
-/// Delivers an event. A fault that is met on the way is pending in the state before, or the processor shuts down (PRM 9.8.8).
-#[tactic(auto, using(m386_base::proofs::Phrases::caught), unfolding(crate::specs::Events::delivery_phrase))]
+/// The state behind a delivery. A fault that was met on the way is pending where it is seen, or the processor shuts down there
+/// (PRM 9.8.8).
+fn behind_delivery(event: &Event, ran: &Ran) -> Proc
+    ensures { result ≡ behind_delivery event.now ran.now }
+{
+    match ran.fault {
+        Some(fault) => behind_second(&ran.after, second(event, fault)),
+        None => ran.after,
+    }
+}
+
+/// Delivers an event (PRM 9.6).
+#[tactic(auto, using(m386_base::proofs::Phrases::calls), unfolding(crate::specs::Events::delivery_phrase))]
 pub fn deliver_event<B: Bus>(p: &Proc, event: &Event, bus: &mut B) -> Result<Proc, Stop>
     requires free { (B.view bus.old).kept ≡ false }
     ensures cycles { PerformsOrStops (delivery_phrase p.now event.now) (B.view bus.old) (B.view bus.new) it result }
     ensures free { (B.view bus.new).kept ≡ false }
 {
-    let mut after = *p;
-    match deliver(&mut after, bus, *event) {
-        Ok(()) => Ok(after),
-        Err(Break::Fault(fault)) => Ok(behind_second(p, second(event, fault))),
-        Err(Break::Stop(stop)) => Err(stop),
-    }
+    let ran = delivered(p, bus, event)?;
+    Ok(behind_delivery(event, &ran))
 }

@@ -77,7 +77,8 @@ pub fn step_keeps_the_task()
 
 /// Each attempt at a task switch of a step ends whole or at the first row of the check table that fails, by its own cycles, and the
 /// step leaves what that makes of the state before: a row of the old task is pending there, one of the new task in the new state, and
-/// a start that fails before its task is entered shuts the processor down.
+/// a start that fails before its task is entered shuts the processor down. Of an event it leaves what the delivery makes of that row, or
+/// of the switch and the push of the error code behind it.
 pub fn each_attempt_of_a_step_ends()
     ensures each { (p : ProcRecord) → EachEnds (StepEnds p) (step_phrase p) }
     ensures whole { (p after : ProcRecord) (ts : List AskRecord) → Follow p ts ≡ Whole after []

@@ -147,7 +147,7 @@ unfolding word_reads ReadsAlone ◌>>=◌
 words_alone role [] joined value = tt
 words_alone role (p ∷ ps) joined value = (refl, λ v. words_alone role ps true _)
 
-descriptor_alone : (role : Role) (at : ℕ) → ReadsAlone (descriptor_phrase role at)
+pub descriptor_alone : (role : Role) (at : ℕ) → ReadsAlone (descriptor_phrase role at)
 unfolding descriptor_phrase
 descriptor_alone role at = reads_then _ _ (words_alone role _ false 0) (λ lo. reads_then _ _ (words_alone role _ true 0) (λ hi. reads_done _))
 
