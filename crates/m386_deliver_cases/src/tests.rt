@@ -5,6 +5,7 @@ mod handlers;
 mod returns;
 mod seconds;
 mod stacks;
+mod tasks;
 
 ghost use Rattle.std.specs.Prelude.{◌≡◌, ◌≤◌, false};
 

@@ -173,6 +173,9 @@ fn tables_of_the_system(rt: HostRuntime) {
         (0, 0x102, Some(0x8e), 0, 0),
         (3, 0x102, Some(0xef), 0, 0),
         (2, 0x102, Some(0xee), 0, 0),
+        (3, 0x102, Some(0xe5), 0, 0),
+        (3, 0x102, Some(0x85), 13, 0x100),
+        (0, 0x102, Some(0x05), 11, 0x100),
         (0, 0x102, None, 13, 0x100),
         // Types of the 286, a call gate, a TSS and data.
         (0, 0x102, Some(0x86), 13, 0x100),

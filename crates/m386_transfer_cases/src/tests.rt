@@ -1,5 +1,6 @@
 //! Worked steps: each over a bus of a few bytes, or over every front of the values that it reads.
 mod call_gates;
+mod event_gates;
 mod inner_stacks;
 mod near;
 mod returns;

@@ -31,13 +31,13 @@ INT3 through a trap gate
 /// INT n whose gate is refused.
 pub(crate) const REFUSED: &str = "\
 start esp=1018 gdtr=ff8:f idtr=ff0:1e
-INT3 through a task gate, which isn't built
+INT3 through a task gate, where TR isn't usable: #GP(0) behind the gate
  before flags=102 idtr=ff0:1f
  bytes cc ff 00 00 00 9b cf 00 44 00 08 00 00 85 00 00
  r fetch 0 1000 f ffcc
  r idt 0 1008 f 80044
  r+ idt 0 100c f 8500
- after pending=d:1a
+ after pending=d:0
 INT3 past the limit of the IDT
  bytes cc ff 00 00 00 9b cf 00 44 00 08 00 00 85 00 00
  r fetch 0 1000 f ffcc
