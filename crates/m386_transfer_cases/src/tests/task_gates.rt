@@ -156,6 +156,304 @@ static OLD: [(&str, u8, bool, (u32, u32), usize, u8, u16); 17] = [
     ("the old task", 3, true, (0x448, 0x70_0000), 6, 13, 0x70),
 ];
 
+/// Switches to a task whose T bit is set.
+const TRAPPED: &str = "\
+start eip=4000 eax=0 ecx=0 edx=0 ebx=0 esp=5000 ebp=0 esi=0 edi=0 es=-0:0:0:0:0 fs=-0:0:0:0:0 gs=-0:0:0:0:0 cs=8:0:fffff:9b:c ss=10:0:fffff:93:c ds=10:0:fffff:93:c tr=18:3000:67:89:0 cr0=9 gdtr=1000:3f idtr=2000:107
+T set, and a code: vector 1 stays pending behind its push
+ before pending=8:0
+ r idt 0 2040 f 200000
+ r+ idt 0 2044 f 8500
+ r tss 0 1020 f 30800067
+ r+ tss 0 1024 f 8900
+ w+ claimcall 0 1024 2 8b00
+ w save 8 3020 f 4000
+ w save 9 3024 f 2
+ w save a 3028 f 0
+ w save b 302c f 0
+ w save c 3030 f 0
+ w save d 3034 f 0
+ w save e 3038 f 5000
+ w save f 303c f 0
+ w save 10 3040 f 0
+ w save 11 3044 f 0
+ w save 12 3048 3 0
+ w save 13 304c 3 8
+ w save 14 3050 3 10
+ w save 15 3054 3 10
+ w save 16 3058 3 0
+ w save 17 305c 3 0
+ w link 0 3080 3 18
+ r load 8 30a0 f 4100
+ r load 9 30a4 f 2
+ r load a 30a8 f 0
+ r load b 30ac f 0
+ r load c 30b0 f 0
+ r load d 30b4 f 0
+ r load e 30b8 f 6000
+ r load f 30bc f 0
+ r load 10 30c0 f 0
+ r load 11 30c4 f 0
+ r load 12 30c8 3 0
+ r load 13 30cc 3 8
+ r load 14 30d0 3 10
+ r load 15 30d4 3 10
+ r load 16 30d8 3 0
+ r load 17 30dc 3 0
+ r load 18 30e0 3 0
+ r load 19 30e4 3 1
+ r gdt 0 1008 f ffff
+ r+ gdt 0 100c f cf9b00
+ r gdt 0 1010 f ffff
+ r+ gdt 0 1014 f cf9300
+ r gdt 0 1010 f ffff
+ r+ gdt 0 1014 f cf9300
+ w push 0 5ffc f 0
+ after pending=1 esp=5ffc eip=4100 flags=4002 tr=20:3080:67:89:0
+T set, no code: vector 1 is pending
+ before pending=6
+ r idt 0 2030 f 200000
+ r+ idt 0 2034 f 8500
+ r tss 0 1020 f 30800067
+ r+ tss 0 1024 f 8900
+ w+ claimcall 0 1024 2 8b00
+ w save 8 3020 f 4000
+ w save 9 3024 f 2
+ w save a 3028 f 0
+ w save b 302c f 0
+ w save c 3030 f 0
+ w save d 3034 f 0
+ w save e 3038 f 5000
+ w save f 303c f 0
+ w save 10 3040 f 0
+ w save 11 3044 f 0
+ w save 12 3048 3 0
+ w save 13 304c 3 8
+ w save 14 3050 3 10
+ w save 15 3054 3 10
+ w save 16 3058 3 0
+ w save 17 305c 3 0
+ w link 0 3080 3 18
+ r load 8 30a0 f 4100
+ r load 9 30a4 f 2
+ r load a 30a8 f 0
+ r load b 30ac f 0
+ r load c 30b0 f 0
+ r load d 30b4 f 0
+ r load e 30b8 f 6000
+ r load f 30bc f 0
+ r load 10 30c0 f 0
+ r load 11 30c4 f 0
+ r load 12 30c8 3 0
+ r load 13 30cc 3 8
+ r load 14 30d0 3 10
+ r load 15 30d4 3 10
+ r load 16 30d8 3 0
+ r load 17 30dc 3 0
+ r load 18 30e0 3 0
+ r load 19 30e4 3 1
+ r gdt 0 1008 f ffff
+ r+ gdt 0 100c f cf9b00
+ r gdt 0 1010 f ffff
+ r+ gdt 0 1014 f cf9300
+ r gdt 0 1010 f ffff
+ r+ gdt 0 1014 f cf9300
+ after pending=1 esp=6000 eip=4100 flags=4002 tr=20:3080:67:89:0
+T set, INT n: vector 1 is pending
+ r fetch 0 4000 f 20cd
+ r idt 0 2100 f 200000
+ r+ idt 0 2104 f 8500
+ r tss 0 1020 f 30800067
+ r+ tss 0 1024 f 8900
+ w+ claimcall 0 1024 2 8b00
+ w save 8 3020 f 4002
+ w save 9 3024 f 2
+ w save a 3028 f 0
+ w save b 302c f 0
+ w save c 3030 f 0
+ w save d 3034 f 0
+ w save e 3038 f 5000
+ w save f 303c f 0
+ w save 10 3040 f 0
+ w save 11 3044 f 0
+ w save 12 3048 3 0
+ w save 13 304c 3 8
+ w save 14 3050 3 10
+ w save 15 3054 3 10
+ w save 16 3058 3 0
+ w save 17 305c 3 0
+ w link 0 3080 3 18
+ r load 8 30a0 f 4100
+ r load 9 30a4 f 2
+ r load a 30a8 f 0
+ r load b 30ac f 0
+ r load c 30b0 f 0
+ r load d 30b4 f 0
+ r load e 30b8 f 6000
+ r load f 30bc f 0
+ r load 10 30c0 f 0
+ r load 11 30c4 f 0
+ r load 12 30c8 3 0
+ r load 13 30cc 3 8
+ r load 14 30d0 3 10
+ r load 15 30d4 3 10
+ r load 16 30d8 3 0
+ r load 17 30dc 3 0
+ r load 18 30e0 3 0
+ r load 19 30e4 3 1
+ r gdt 0 1008 f ffff
+ r+ gdt 0 100c f cf9b00
+ r gdt 0 1010 f ffff
+ r+ gdt 0 1014 f cf9300
+ r gdt 0 1010 f ffff
+ r+ gdt 0 1014 f cf9300
+ after pending=1 esp=6000 eip=4100 flags=4002 tr=20:3080:67:89:0
+T set, and a code that faults: the double fault takes the place of vector 1
+ before pending=a:30
+ r idt 0 2050 f 200000
+ r+ idt 0 2054 f 8500
+ r tss 0 1020 f 30800067
+ r+ tss 0 1024 f 8900
+ w+ claimcall 0 1024 2 8b00
+ w save 8 3020 f 4000
+ w save 9 3024 f 2
+ w save a 3028 f 0
+ w save b 302c f 0
+ w save c 3030 f 0
+ w save d 3034 f 0
+ w save e 3038 f 5000
+ w save f 303c f 0
+ w save 10 3040 f 0
+ w save 11 3044 f 0
+ w save 12 3048 3 0
+ w save 13 304c 3 8
+ w save 14 3050 3 10
+ w save 15 3054 3 10
+ w save 16 3058 3 0
+ w save 17 305c 3 0
+ w link 0 3080 3 18
+ r load 8 30a0 f 4100
+ r load 9 30a4 f 2
+ r load a 30a8 f 0
+ r load b 30ac f 0
+ r load c 30b0 f 0
+ r load d 30b4 f 0
+ r load e 30b8 f 6000
+ r load f 30bc f 0
+ r load 10 30c0 f 0
+ r load 11 30c4 f 0
+ r load 12 30c8 3 0
+ r load 13 30cc 3 8
+ r load 14 30d0 3 10
+ r load 15 30d4 3 10
+ r load 16 30d8 3 0
+ r load 17 30dc 3 0
+ r load 18 30e0 3 0
+ r load 19 30e4 3 1
+ r gdt 0 1008 f ffff
+ r+ gdt 0 100c f cf9b00
+ r gdt 0 1010 f ff
+ r+ gdt 0 1014 f 409300
+ r gdt 0 1010 f ff
+ r+ gdt 0 1014 f 409300
+ after pending=8:0 eip=4100 flags=4002 esp=6000 ss=10:0:ff:93:4 ds=10:0:ff:93:4 tr=20:3080:67:89:0
+T set, and the code of a double fault that faults: shutdown, and nothing is pending
+ before pending=8:0
+ r idt 0 2040 f 200000
+ r+ idt 0 2044 f 8500
+ r tss 0 1020 f 30800067
+ r+ tss 0 1024 f 8900
+ w+ claimcall 0 1024 2 8b00
+ w save 8 3020 f 4000
+ w save 9 3024 f 2
+ w save a 3028 f 0
+ w save b 302c f 0
+ w save c 3030 f 0
+ w save d 3034 f 0
+ w save e 3038 f 5000
+ w save f 303c f 0
+ w save 10 3040 f 0
+ w save 11 3044 f 0
+ w save 12 3048 3 0
+ w save 13 304c 3 8
+ w save 14 3050 3 10
+ w save 15 3054 3 10
+ w save 16 3058 3 0
+ w save 17 305c 3 0
+ w link 0 3080 3 18
+ r load 8 30a0 f 4100
+ r load 9 30a4 f 2
+ r load a 30a8 f 0
+ r load b 30ac f 0
+ r load c 30b0 f 0
+ r load d 30b4 f 0
+ r load e 30b8 f 6000
+ r load f 30bc f 0
+ r load 10 30c0 f 0
+ r load 11 30c4 f 0
+ r load 12 30c8 3 0
+ r load 13 30cc 3 8
+ r load 14 30d0 3 10
+ r load 15 30d4 3 10
+ r load 16 30d8 3 0
+ r load 17 30dc 3 0
+ r load 18 30e0 3 0
+ r load 19 30e4 3 1
+ r gdt 0 1008 f ffff
+ r+ gdt 0 100c f cf9b00
+ r gdt 0 1010 f ff
+ r+ gdt 0 1014 f 409300
+ r gdt 0 1010 f ff
+ r+ gdt 0 1014 f 409300
+ after pending=none mode=shutdown eip=4100 flags=4002 esp=6000 ss=10:0:ff:93:4 ds=10:0:ff:93:4 tr=20:3080:67:89:0
+T set, and a row that fails: its fault alone
+ before request=20 flags=202
+ r idt 0 2100 f 200000
+ r+ idt 0 2104 f 8500
+ r tss 0 1020 f 30800067
+ r+ tss 0 1024 f 8900
+ w+ claimcall 0 1024 2 8b00
+ w save 8 3020 f 4000
+ w save 9 3024 f 202
+ w save a 3028 f 0
+ w save b 302c f 0
+ w save c 3030 f 0
+ w save d 3034 f 0
+ w save e 3038 f 5000
+ w save f 303c f 0
+ w save 10 3040 f 0
+ w save 11 3044 f 0
+ w save 12 3048 3 0
+ w save 13 304c 3 8
+ w save 14 3050 3 10
+ w save 15 3054 3 10
+ w save 16 3058 3 0
+ w save 17 305c 3 0
+ w link 0 3080 3 18
+ r load 8 30a0 f 4100
+ r load 9 30a4 f 2
+ r load a 30a8 f 0
+ r load b 30ac f 0
+ r load c 30b0 f 0
+ r load d 30b4 f 0
+ r load e 30b8 f 6000
+ r load f 30bc f 0
+ r load 10 30c0 f 0
+ r load 11 30c4 f 0
+ r load 12 30c8 3 0
+ r load 13 30cc 3 8
+ r load 14 30d0 3 30
+ r load 15 30d4 3 10
+ r load 16 30d8 3 0
+ r load 17 30dc 3 0
+ r load 18 30e0 3 0
+ r load 19 30e4 3 1
+ r gdt 0 1008 f ffff
+ r+ gdt 0 100c f cf9b00
+ r gdt 0 1030 f ffff
+ r+ gdt 0 1034 f cff200
+ after request=none pending=a:31 eip=4100 flags=4002 esp=6000 cs=8:0:fffff:9b:c ss=-30:0:0:0:0 ds=-10:0:0:0:0 tr=20:3080:67:89:0
+";
+
 #[test]
 fn the_old_task_is_told_of_its_gate_and_of_the_rows_1_to_7(rt: HostRuntime) {
     for (name, level, in_task, word, made, vector, code) in OLD.iter().copied() {
@@ -231,4 +529,9 @@ fn a_task_is_entered_whatever_the_level_of_its_tss(rt: HostRuntime) {
             comes_to(&rt, "whole", &before(3), bus, NAMED + made + 14, &after);
         }
     }
+}
+
+#[test]
+fn the_t_bit_behind_a_task_gate(rt: HostRuntime) {
+    assert_eq!(rt; all_made(TRAPPED), Ok(6));
 }
