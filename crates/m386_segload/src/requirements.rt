@@ -64,10 +64,7 @@ fn event_gate(desc: Option<Desc>) -> bool
     ensures { result ≡ given desc is_event_gate }
 {
     match desc {
-        Some(d) => matches!(
-            kind(&d),
-            Kind::TaskGate | Kind::IntGate | Kind::TrapGate
-        ),
+        Some(d) => matches!(kind(&d), Kind::TaskGate | Kind::IntGate | Kind::TrapGate),
         None => false,
     }
 }
