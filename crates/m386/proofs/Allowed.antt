@@ -9,9 +9,11 @@ use Rattle.m386_image.specs.Fault.{FirstFault}
 use Rattle.m386_image.specs.Format.{ImageOf}
 use Rattle.m386_image.specs.declared.fault.ImageFault.{ImageFault}
 use Rattle.m386_image.specs.declared.image.Image.{Image as ImageData}
+use Rattle.m386_memory.specs.Contents.{Contents}
 use Rattle.m386_memory.specs.declared.ended.ProcEnd.{ProcEnd}
 use Rattle.m386_state.specs.declared.proc.Proc.{Proc}
-use Rattle.m386_trace.specs.Report.{cycle_text, procs_text, machine_text, verdict_text, title_text, report_text}
+use Rattle.m386_trace.specs.Report.{cycle_text, left_at, procs_text, machine_text, verdict_text, title_text, report_text}
+use Rattle.m386_trace.specs.Tasks.{tasks_text}
 use Rattle.m386.proofs.Answers.{not_both, met, not_run}
 use Rattle.m386.specs.Top.{Edges, IsAnswer, most_bytes, refusal}
 use Rattle.m386.specs.declared.words.Asked.{Asked}
@@ -36,10 +38,10 @@ pub not_done : (meant : Result Asked UsageKind) (old new : Edges) (bytes : List 
 not_done meant old new bytes fault l f h = not_run meant old new h.0 bytes fault h.1 l f
 
 -- a report has a first line
-some_report : (image : ImageData) (history : List Cycle) (procs : List (ProcEnd Proc)) (verdict : Verdict) → 0 < length (report_text image history procs verdict)
+some_report : (image : ImageData) (first : Contents) (history : List Cycle) (procs : List (ProcEnd Proc)) (verdict : Verdict) → 0 < length (report_text image first history procs verdict)
 unfolding report_text title_text
-some_report image history procs verdict =
-    let rest : List ℕ = machine_text image (length procs) ++ flat_map cycle_text history ++ procs_text 0 procs ++ verdict_text verdict in
+some_report image first history procs verdict =
+    let rest : List ℕ = machine_text image (length procs) ++ flat_map cycle_text history ++ procs_text 0 procs ++ tasks_text (left_at first history) image.gdt ++ verdict_text verdict in
     let l : length (codes "m386 report 1\n" ++ rest) ≡ 14 + length rest = length-append (codes "m386 report 1\n") rest in
     omega (arith, l)
 
@@ -54,5 +56,5 @@ nothing_grown (Some before) new held text o same g =
 pub silent : (meant : Result Asked UsageKind) (old new : Edges) (held : List ℕ) → old.held ≡ Some held → new.held ≡ old.held → IsAnswer meant old new Done → ⊥
 silent meant old new held o same h =
     let none : length h.0 ≡ 0 = nothing_grown old.held new.held held h.0 o same h.2 in
-    let t : length h.0 ≡ length (report_text h.1.image h.1.run_text.history h.1.run_text.ends h.1.run_text.verdict) = ap length h.1.run_text.text_is in
-    omega (arith, none, t, some_report h.1.image h.1.run_text.history h.1.run_text.ends h.1.run_text.verdict)
+    let t : length h.0 ≡ length (report_text h.1.image h.1.run_text.run.run.first h.1.run_text.history h.1.run_text.ends h.1.run_text.verdict) = ap length h.1.run_text.text_is in
+    omega (arith, none, t, some_report h.1.image h.1.run_text.run.run.first h.1.run_text.history h.1.run_text.ends h.1.run_text.verdict)

@@ -4,6 +4,7 @@ use Rattle.m386_base.specs.declared.ask.Cycle.{Cycle}
 use Rattle.m386_book.specs.Verdict.{IsFirstFailure}
 use Rattle.m386_book.specs.declared.verdict.Verdict.{Verdict}
 use Rattle.m386_core.proofs.Attempts.{run_switches_end}
+use Rattle.m386_core.proofs.OneRun.{one_beginning}
 use Rattle.m386_core.proofs.Runs.{over_is_run}
 use Rattle.m386_core.specs.Machine.{MachineView, IsMachine}
 use Rattle.m386_core.specs.Order.{InOrder}
@@ -13,10 +14,11 @@ use Rattle.m386_core.specs.declared.order.Order.{Order}
 use Rattle.m386_image.proofs.Valid.{valid_cpus}
 use Rattle.m386_image.specs.Format.{IsValid}
 use Rattle.m386_image.specs.declared.image.Image.{Image as ImageData}
+use Rattle.m386_memory.specs.Contents.{Contents}
 use Rattle.m386_memory.specs.History.{RecordView}
 use Rattle.m386_memory.specs.declared.ended.ProcEnd.{ProcEnd}
 use Rattle.m386_state.specs.declared.proc.Proc.{Proc}
-use Rattle.m386_step.specs.Run.{Run}
+use Rattle.m386_step.specs.Run.{BeginsWith, Run}
 use Rattle.m386_turns.specs.Turns.{AllDone}
 use Rattle.m386_trace.specs.Report.{report_text}
 use Rattle.m386.specs.Top.{IsAnswer, IsAnswerOf, IsRunOf, IsRunText, IsScheduled, HasAllowed, SourceGave, at_edges, at_out, at_source, count_of, excess, most_steps, refusal}
@@ -29,16 +31,16 @@ use Rattle.m386.specs.declared.status.Status.{Status}
 use Rattle.m386.specs.declared.status.Status.TheVariants.{Done, Memory, Usage, ReadFault, WriteFault, Image, TooLong}
 
 -- the report of a run whose verdict is known
-pub text_of_run : (image : ImageData) (asked : Asked) (history : List Cycle) (ends : List (ProcEnd Proc)) (verdict : Verdict) → refusal image asked ≡ None → IsRunOf image asked history ends → IsFirstFailure image history verdict → IsRunText image asked (report_text image history ends verdict)
-text_of_run image asked history ends verdict allowed run first = record {
+pub text_of_run : (image : ImageData) (asked : Asked) (first : Contents) (history : List Cycle) (ends : List (ProcEnd Proc)) (verdict : Verdict) → refusal image asked ≡ None → IsRunOf image asked history ends → BeginsWith image first → IsFirstFailure image history verdict → IsRunText image asked (report_text image first history ends verdict)
+text_of_run image asked first history ends verdict allowed run begins failure = record {
   allowed = allowed;
   history = history;
   ends = ends;
   run = run;
   switches = run_switches_end image (count_of image asked.cpus) asked.steps history ends run.run;
   verdict = verdict;
-  first_failure = first;
-  text_is = refl;
+  first_failure = failure;
+  text_is = ap (λ (f : Contents). report_text image f history ends verdict) (one_beginning image first run.run.first begins run.run.begins);
 }
 
 -- what a source gave, whatever the output is
@@ -120,3 +122,7 @@ means_plainly words asked order e s = ap without_threads e ∙ ap (in_no_thread 
 -- all have finished in a machine of this image, with so many processors and steps
 pub machine_run : (left m : MachineView) (image : ImageData) (count steps : ℕ) (log : RecordView) (ends : List (ProcEnd Proc)) → AllDone (λ (x : MachineView). x.cpus) (λ (x : MachineView) (p : ℕ). HasFinished x.image x.budget x.log.cycles p) left → m ≡ left → IsMachine m → (m.image ≡ image) × (m.cpus ≡ count) × (m.budget ≡ steps) → log ≡ m.log → ends ≡ m.ends → Run image count steps log.cycles ends
 machine_run left m image count steps log ends done is kept same l e = rw (← same.0, ← same.1, ← same.2, l, e) (over_is_run m kept (subst IsOver (sym is) done))
+
+-- and its history begins with the contents of the image
+pub machine_begins : (m : MachineView) (image : ImageData) (log : RecordView) → IsMachine m → m.image ≡ image → log ≡ m.log → BeginsWith image log.first
+machine_begins m image log kept same l = rw (← same, l) kept.front.begins

@@ -79,7 +79,7 @@ pub record IsRunOf (image : ImageRecord) (asked : Asked) (history : List Cycle) 
   pub run : Run image (count_of image asked.cpus) asked.steps history ends
   pub in_order : IsScheduled image (count_of image asked.cpus) asked.steps asked.schedule history
 
--- The text is the report of the run of an image: the history and the ends that it prints are those of the run, in which each attempt at
+-- The text is the report of the run of an image: the history, the ends and the tasks that it prints are those of the run, in which each attempt at
 -- a task switch ends whole or at the first row of the check table that fails, and the verdict is its first failure.
 pub record IsRunText (image : ImageRecord) (asked : Asked) (text : List ℕ) : Type 0 where
   pub allowed : refusal image asked ≡ None
@@ -89,7 +89,7 @@ pub record IsRunText (image : ImageRecord) (asked : Asked) (text : List ℕ) : T
   pub switches : SwitchesEnd image (count_of image asked.cpus) history
   pub verdict : Verdict
   pub first_failure : IsFirstFailure image history verdict
-  pub text_is : text ≡ report_text image history ends verdict
+  pub text_is : text ≡ report_text image run.run.first history ends verdict
 
 -- the source was read to its end, and gave these bytes
 pub record SourceGave (old new : Edges) (bytes : List ℕ) : Type 0 where

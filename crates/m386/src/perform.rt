@@ -1,6 +1,7 @@
 //! The work of a call: from its words and its input to its output.
 ghost use Rattle.std.specs.Prelude.{◌≡◌, ◌<◌, ◌≤◌, None, Ok, All, IfOk, IfErr, length};
 ghost use Rattle.m386_image.specs.Format.{IsValid};
+ghost use Rattle.m386_step.specs.Run.{BeginsWith};
 ghost use Rattle.m386_book.specs.Verdict.{IsFirstFailure};
 ghost use Rattle.m386.specs.Top.{IsAnswer, IsAnswerOf, IsRunOf, HasAllowed, HasNone, at_edges, at_source, at_out, count_of, excess, refusal};
 ghost use Rattle.m386.specs.Words.{texts, IsAsked, words_mean_plainly};
@@ -69,6 +70,7 @@ fn verdict_on(alloc: Global, image: &Image, ended: &Ended<Proc>) -> Result<Verdi
 fn write_run<K: Sink>(image: &Image, ended: &Ended<Proc>, verdict: &Verdict, out: &mut K) -> Status
     requires cpus { All (λ c. c.cpu < 8) ended.now.log.cycles }
     requires few { length ended.now.procs ≤ 8 }
+    requires begins { BeginsWith image.now ended.now.log.first }
     requires first { IsFirstFailure image.now ended.now.log.cycles verdict.now }
     ensures { (asked : AskedData) → refusal image.now asked ≡ None → IsRunOf image.now asked ended.now.log.cycles ended.now.procs
         → IsAnswerOf image.now asked (at_out (K.held out.old) (K.faults out.old)) (at_out (K.held out.new) (K.faults out.new)) result }
@@ -83,6 +85,7 @@ fn write_run<K: Sink>(image: &Image, ended: &Ended<Proc>, verdict: &Verdict, out
 fn report_on<K: Sink>(alloc: Global, image: &Image, ended: &Ended<Proc>, out: &mut K) -> Status
     requires cpus { All (λ c. c.cpu < 8) ended.now.log.cycles }
     requires few { length ended.now.procs ≤ 8 }
+    requires begins { BeginsWith image.now ended.now.log.first }
     ensures { (asked : AskedData) → refusal image.now asked ≡ None → IsRunOf image.now asked ended.now.log.cycles ended.now.procs
         → IsAnswerOf image.now asked (at_out (K.held out.old) (K.faults out.old)) (at_out (K.held out.new) (K.faults out.new)) result }
 {

@@ -1,7 +1,7 @@
 //! The run of an image.
 ghost use Rattle.std.specs.Prelude.{◌≡◌, ◌↔◌, ◌<◌, ◌≤◌, true, IfOk, All, length};
 ghost use Rattle.m386_image.specs.Format.{IsValid};
-ghost use Rattle.m386_step.specs.Run.{Run};
+ghost use Rattle.m386_step.specs.Run.{BeginsWith, Run};
 ghost use Rattle.m386_core.specs.Order.{InOrder};
 
 use crate::same::is_same_image;
@@ -30,6 +30,7 @@ pub fn run_image(
     requires some { 1 ≤ cpus }
     requires most { cpus ≤ image.now.cpus }
     requires budget { steps ≤ 65536 }
+    ensures begins { IfOk result (λ e. BeginsWith image.now e.log.first) }
     ensures run { IfOk result (λ e. Run image.now cpus steps e.log.cycles e.procs) }
     ensures in_order { IfOk result (λ e. InOrder image.now cpus steps order.now e.log.cycles) }
     ensures below { IfOk result (λ e. All (λ c. c.cpu < 8) e.log.cycles) }
@@ -64,6 +65,7 @@ pub fn run_in_threads<G: Gate + Sync, R: Threads + Wait + Sync>(
     requires some { 1 ≤ cpus }
     requires most { cpus ≤ image.now.cpus }
     requires budget { steps ≤ 65536 }
+    ensures begins { IfOk result (λ e. BeginsWith image.now e.log.first) }
     ensures run { IfOk result (λ e. Run image.now cpus steps e.log.cycles e.procs) }
     ensures below { IfOk result (λ e. All (λ c. c.cpu < 8) e.log.cycles) }
     ensures few { IfOk result (λ e. length e.procs ≤ 8) }

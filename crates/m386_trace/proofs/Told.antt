@@ -16,11 +16,13 @@ use Rattle.m386_base.specs.declared.ask.Space.TheVariants.{Memory, Port}
 use Rattle.m386_base.specs.declared.ask.Role.{Role}
 use Rattle.m386_base.specs.declared.ask.Role.TheVariants.{Fetch, Operand, Push, Pop, Flags, Gdt, Ldt, Idt, GdtAcc, LdtAcc, Tss, ClaimJmp, ClaimCall, ClaimStart, ClaimLtr, Save, Link, Back, RelJmp, RelRet, Load, Inner, Map, Lgdt, Lidt}
 use Rattle.m386_image.specs.declared.image.Image.{Image}
+use Rattle.m386_memory.specs.Contents.{Contents}
 use Rattle.m386_memory.specs.declared.ended.ProcEnd.{ProcEnd}
 use Rattle.m386_state.specs.declared.proc.Proc.{Proc}
 use Rattle.m386_book.specs.declared.verdict.Verdict.{Verdict}
 use Rattle.m386_trace.specs.Line.{spaced, hex1, hex8, two_digits}
-use Rattle.m386_trace.specs.Report.{ask_fields, cycle_text, machine_text, proc_text, procs_text, report_text, title_text, verdict_text}
+use Rattle.m386_trace.specs.Report.{ask_fields, cycle_text, left_at, machine_text, proc_text, procs_text, report_text, title_text, verdict_text}
+use Rattle.m386_trace.specs.Tasks.{tasks_text}
 use Rattle.m386_trace.specs.Told.{HasReport, HasWidths}
 use Rattle.m386_trace.specs.Words.{joined_word, role_word, space_word, write_word}
 
@@ -342,21 +344,21 @@ length-machine_text image cpus small =
       length-decimal cpus small,
     )
 
-report_then : (image : Image) (history : List Cycle) (procs : List (ProcEnd Proc)) (verdict : Verdict)
-    → report_text image history procs verdict ≡ title_text ++ (machine_text image (length procs) ++ (flat_map cycle_text history ++ (procs_text 0 procs ++ verdict_text verdict)))
+report_then : (image : Image) (first : Contents) (history : List Cycle) (procs : List (ProcEnd Proc)) (verdict : Verdict)
+    → report_text image first history procs verdict ≡ title_text ++ (machine_text image (length procs) ++ (flat_map cycle_text history ++ (procs_text 0 procs ++ (tasks_text (left_at first history) image.gdt ++ verdict_text verdict))))
 unfolding report_text
-report_then image history procs verdict = simp append_assoc
+report_then image first history procs verdict = simp append_assoc
 
 -- two runs with one report have the same cycles
-pub tells_cycles : (history other : List Cycle) (image other_image : Image) (procs other_procs : List (ProcEnd Proc)) (verdict other_verdict : Verdict)
+pub tells_cycles : (history other : List Cycle) (image other_image : Image) (first other_first : Contents) (procs other_procs : List (ProcEnd Proc)) (verdict other_verdict : Verdict)
     → HasReport history procs → HasReport other other_procs
-    → report_text image history procs verdict ≡ report_text other_image other other_procs other_verdict → history ≡ other
-tells_cycles history other image other_image procs other_procs verdict other_verdict one two same =
-    let text = sym (report_then image history procs verdict) ∙ same ∙ report_then other_image other other_procs other_verdict in
+    → report_text image first history procs verdict ≡ report_text other_image other_first other other_procs other_verdict → history ≡ other
+tells_cycles history other image other_image first other_first procs other_procs verdict other_verdict one two same =
+    let text = sym (report_then image first history procs verdict) ∙ same ∙ report_then other_image other_first other other_procs other_verdict in
     let titled = append_cancel_left title_text _ _ text in
     let lengths = length-machine_text image (length procs) one.few ∙ sym (length-machine_text other_image (length other_procs) two.few) in
     let lines = split_same (machine_text image (length procs)) (machine_text other_image (length other_procs)) _ _ lengths titled in
-    let first = procs_begin procs (verdict_text verdict) one.some in
-    let second = procs_begin other_procs (verdict_text other_verdict) two.some in
-    let cycles = sym (ap (λ (t : List ℕ). flat_map cycle_text history ++ t) first.1) ∙ lines.1 ∙ ap (λ (t : List ℕ). flat_map cycle_text other ++ t) second.1 in
-    cycles_same history other first.0 second.0 one.cycles two.cycles cycles
+    let begun = procs_begin procs (tasks_text (left_at first history) image.gdt ++ verdict_text verdict) one.some in
+    let other_begun = procs_begin other_procs (tasks_text (left_at other_first other) other_image.gdt ++ verdict_text other_verdict) two.some in
+    let cycles = sym (ap (λ (t : List ℕ). flat_map cycle_text history ++ t) begun.1) ∙ lines.1 ∙ ap (λ (t : List ℕ). flat_map cycle_text other ++ t) other_begun.1 in
+    cycles_same history other begun.0 other_begun.0 one.cycles two.cycles cycles

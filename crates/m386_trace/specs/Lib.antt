@@ -1,4 +1,5 @@
 pub mod Line
 pub mod Report
+pub mod Tasks
 pub mod Told
 pub mod Words

@@ -4,14 +4,18 @@ use Rattle.std.specs.List.{flat_map}
 use Rattle.m386_base.specs.Segments.{es, cs, ss, ds, fs, gs}
 use Rattle.m386_base.specs.declared.ask.Ask.{Ask}
 use Rattle.m386_base.specs.declared.ask.Cycle.{Cycle}
+use Rattle.m386_base.specs.declared.ask.Space.TheVariants.{Memory}
 use Rattle.m386_image.specs.declared.image.Image.{Image}
 use Rattle.m386_state.specs.declared.event.Event.{Event}
 use Rattle.m386_state.specs.declared.proc.Proc.{Proc}
 use Rattle.m386_state.specs.Start.{seg_at}
+use Rattle.m386_memory.specs.Contents.{Contents}
+use Rattle.m386_memory.specs.History.{byte_after, past}
 use Rattle.m386_memory.specs.declared.ended.ProcEnd.{ProcEnd}
 use Rattle.m386_book.specs.declared.verdict.Verdict.{Verdict}
 use Rattle.m386_book.specs.declared.verdict.Verdict.TheVariants.{Clean, Static, At}
 use Rattle.m386_trace.specs.Line.{line_text, hex1, hex2, hex4, hex8, two_digits}
+use Rattle.m386_trace.specs.Tasks.{tasks_text}
 use Rattle.m386_trace.specs.Words.{role_word, space_word, write_word, joined_word, mode_word}
 
 -- ---- a cycle
@@ -97,8 +101,13 @@ verdict_text Clean = line_text (codes "clean") []
 verdict_text (Static rule) = line_text (codes "unclean") (codes "rule" ∷ decimal rule ∷ [])
 verdict_text (At rule index) = line_text (codes "unclean") (codes "rule" ∷ decimal rule ∷ codes "at" ∷ decimal index ∷ [])
 
--- The report on a run: its cycles in their order, then its processors, then the verdict. There is no line for a task yet.
+-- the byte at each place of memory, where a history began with these contents
+abbrev pub left_at : Contents → List Cycle → ℕ → ℕ
+left_at first history place = byte_after first (past history) Memory place
+
+-- The report on a run, whose cycles began with these contents: the cycles in their order, then its processors, then the tasks of the
+-- image's GDT as the cycles left memory, then the verdict.
 -- Own choice: docs/DECISIONS.md, "The report"
-unfoldable pub report_text : Image → List Cycle → List (ProcEnd Proc) → Verdict → List ℕ
-report_text image history procs verdict =
-    title_text ++ machine_text image (length procs) ++ flat_map cycle_text history ++ procs_text 0 procs ++ verdict_text verdict
+unfoldable pub report_text : Image → Contents → List Cycle → List (ProcEnd Proc) → Verdict → List ℕ
+report_text image first history procs verdict =
+    title_text ++ machine_text image (length procs) ++ flat_map cycle_text history ++ procs_text 0 procs ++ tasks_text (left_at first history) image.gdt ++ verdict_text verdict

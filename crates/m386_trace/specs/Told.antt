@@ -4,6 +4,7 @@ use Rattle.std.specs.List.{AllByRecursion}
 use Rattle.m386_base.specs.declared.ask.Cycle.{Cycle}
 use Rattle.m386_image.specs.declared.image.Image.{Image}
 use Rattle.m386_state.specs.declared.proc.Proc.{Proc}
+use Rattle.m386_memory.specs.Contents.{Contents}
 use Rattle.m386_memory.specs.declared.ended.ProcEnd.{ProcEnd}
 use Rattle.m386_book.specs.declared.verdict.Verdict.{Verdict}
 use Rattle.m386_trace.specs.Report.{report_text}
@@ -25,6 +26,6 @@ pub record HasReport (history : List Cycle) (procs : List (ProcEnd Proc)) : Type
 -- Two runs with one report have the same cycles.
 abbrev pub TellsCycles : List Cycle → List Cycle → Type 0
 TellsCycles history other =
-    (image other_image : Image) (procs other_procs : List (ProcEnd Proc)) (verdict other_verdict : Verdict)
+    (image other_image : Image) (first other_first : Contents) (procs other_procs : List (ProcEnd Proc)) (verdict other_verdict : Verdict)
     → HasReport history procs → HasReport other other_procs
-    → report_text image history procs verdict ≡ report_text other_image other other_procs other_verdict → history ≡ other
+    → report_text image first history procs verdict ≡ report_text other_image other_first other other_procs other_verdict → history ≡ other

@@ -7,5 +7,6 @@ pub mod laws;
 pub mod machine;
 pub mod proc;
 pub mod report;
+pub mod task;
 pub mod verdict;
 pub mod words;
