@@ -18,6 +18,7 @@ use m386_trace::cycle::cycle_line;
 use m386_trace::machine::machine_line;
 use m386_trace::proc::proc_line;
 use m386_trace::report::report;
+use m386_trace::task::task_line;
 use m386_trace::verdict::verdict_line;
 use m386_trace::words::role_word;
 use std::alloc::Global;
@@ -405,5 +406,49 @@ fn each_processor_has_its_line(rt: HostRuntime) -> Result<(), Fail> {
         "m386 report 1\nmemory 00004000 cpus 2\n{FIRST_RUN}{SECOND_RUN}unclean rule 4\n"
     )?;
     assert_eq!(rt; sink.bytes(), text.as_bytes());
+    Ok(())
+}
+
+/// What lies at 1008h: the descriptors 1 to 3 of a table, of a busy TSS at 1020h, of data, and of a TSS that isn't present, whose limit counts
+/// pages and which lies past the end of memory; and then the 104 bytes of the first TSS, 80h and up.
+const TASKS: [u8; 128] = [
+    0x67, 0x00, 0x20, 0x10, 0x00, 0x8b, 0x00, 0x00, 0xff, 0xff, 0x00, 0x00, 0x00, 0x92, 0xcf, 0x00,
+    0x12, 0x00, 0x40, 0xcd, 0xab, 0x09, 0x80, 0x00, 0x80, 0x81, 0x82, 0x83, 0x84, 0x85, 0x86, 0x87,
+    0x88, 0x89, 0x8a, 0x8b, 0x8c, 0x8d, 0x8e, 0x8f, 0x90, 0x91, 0x92, 0x93, 0x94, 0x95, 0x96, 0x97,
+    0x98, 0x99, 0x9a, 0x9b, 0x9c, 0x9d, 0x9e, 0x9f, 0xa0, 0xa1, 0xa2, 0xa3, 0xa4, 0xa5, 0xa6, 0xa7,
+    0xa8, 0xa9, 0xaa, 0xab, 0xac, 0xad, 0xae, 0xaf, 0xb0, 0xb1, 0xb2, 0xb3, 0xb4, 0xb5, 0xb6, 0xb7,
+    0xb8, 0xb9, 0xba, 0xbb, 0xbc, 0xbd, 0xbe, 0xbf, 0xc0, 0xc1, 0xc2, 0xc3, 0xc4, 0xc5, 0xc6, 0xc7,
+    0xc8, 0xc9, 0xca, 0xcb, 0xcc, 0xcd, 0xce, 0xcf, 0xd0, 0xd1, 0xd2, 0xd3, 0xd4, 0xd5, 0xd6, 0xd7,
+    0xd8, 0xd9, 0xda, 0xdb, 0xdc, 0xdd, 0xde, 0xdf, 0xe0, 0xe1, 0xe2, 0xe3, 0xe4, 0xe5, 0xe6, 0xe7,
+];
+
+/// The line of the first, by the places of the fields in the manual's figure 7-1.
+const BUSY_TASK: &str =
+    "t 0008 busy base 00001020 limit 00000067 link 8180 esp0 87868584 ss0 8988 esp1 8f8e8d8c ss1 9190 esp2 97969594 ss2 9998 cr3 9f9e9d9c eip a3a2a1a0 efl a7a6a5a4 eax abaaa9a8 ecx afaeadac edx b3b2b1b0 ebx b7b6b5b4 esp bbbab9b8 ebp bfbebdbc esi c3c2c1c0 edi c7c6c5c4 es c9c8 cs cdcc ss d1d0 ds d5d4 fs d9d8 gs dddc ldt e1e0 trap e5e4 map e7e6\n";
+
+/// The line of the third.
+const ABSENT_TASK: &str =
+    "t 0018 free base 00abcd40 limit 00012fff link ffff esp0 ffffffff ss0 ffff esp1 ffffffff ss1 ffff esp2 ffffffff ss2 ffff cr3 ffffffff eip ffffffff efl ffffffff eax ffffffff ecx ffffffff edx ffffffff ebx ffffffff esp ffffffff ebp ffffffff esi ffffffff edi ffffffff es ffff cs ffff ss ffff ds ffff fs ffff gs ffff ldt ffff trap ffff map ffff\n";
+
+#[test]
+fn tasks_have_lines_by_the_places_of_their_fields(rt: HostRuntime) -> Result<(), Fail> {
+    let mut store = Store::new(rt.alloc(), 16384)?;
+    if store.size() < 16384 {
+        return Err(Fail::new("a small store"));
+    }
+    store.fill(0x1008, &TASKS);
+    let table = TableAt {
+        base: 0x1000,
+        limit: 0x1f,
+    };
+    let Some(busy) = task_line(&store, table, 1) else {
+        return Err(Fail::new("no line of a busy TSS"));
+    };
+    assert_eq!(rt; busy.as_str(), BUSY_TASK);
+    assert!(rt; task_line(&store, table, 2).is_none());
+    let Some(absent) = task_line(&store, table, 3) else {
+        return Err(Fail::new("no line of a TSS that isn't present"));
+    };
+    assert_eq!(rt; absent.as_str(), ABSENT_TASK);
     Ok(())
 }
