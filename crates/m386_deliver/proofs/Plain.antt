@@ -35,6 +35,7 @@ use Rattle.m386_stack.proofs.Pushed.{pop_then, push_then, pushes_then}
 use Rattle.m386_transfer.specs.declared.executed.Executed.{Executed}
 use Rattle.m386_transfer.specs.declared.executed.Executed.TheVariants.{Ran, Came}
 use Rattle.m386_transfer.specs.declared.place.Target.{Target}
+use Rattle.m386_transfer.specs.Executed.{simply, switching_phrase}
 use Rattle.m386_transfer.specs.Gate.{gate_of}
 use Rattle.m386_transfer.specs.Place.{level_of, target_fault}
 use Rattle.m386_transfer.specs.Tried.{AreReads, KeepsRun, Tried, TriedFrom}
@@ -109,7 +110,7 @@ gate_alone p e = reads_then _ _ (entry_alone p e.vector) (λ found. need_alone (
 -- by the type of the gate
 by_gate_tried : (p : Proc) (us : List Ask) (e : Event) (g : Desc) → AreReads us → Tried 113 (Ordinary p.gdtr) (KeepsRun p) p us (by_gate_phrase p e g)
 by_gate_tried p us e g r =
-    tried_if 113 (Ordinary p.gdtr) (KeepsRun p) p us (leads_to_task (kind_of g)) _ _ (tried_switch 113 (Ordinary p.gdtr) (KeepsRun p) p (gate_brief e g) us refl (omega arith) r)
+    tried_if 113 (Ordinary p.gdtr) (KeepsRun p) p us (leads_to_task (kind_of g)) _ _ (tried_switch 113 (Ordinary p.gdtr) (KeepsRun p) p (gate_brief e g) us refl (λ e. cc) (omega arith) r)
     (tried_simply 26 113 p us (through_phrase p e g) (omega arith) (plain_through p us e g))
 
 -- An event through its gate: at most 117 cycles, ordinary ones or a switch behind reads.
@@ -187,9 +188,11 @@ plain_left p w =
 -- IRET: at most twenty cycles, each an ordinary one, or a switch.
 pub tried_returned : (p : Proc) (w : Width) → TriedFrom 113 p (returned_phrase p w)
 unfolding returned_phrase
-tried_returned p w =
-    tried_if 113 (Ordinary p.gdtr) (KeepsRun p) p [] (has_flag flags.NestedTask p.eflags) _ _ (tried_switch 113 (Ordinary p.gdtr) (KeepsRun p) p back_brief [] refl (omega arith) tt)
-    (tried_simply 20 113 p [] (handler_left_phrase p (size_of w)) (omega arith) (plain_left p w))
+tried_returned p w = go (has_flag flags.NestedTask p.eflags) refl
+  where
+    go : (b : Bool) → has_flag flags.NestedTask p.eflags ≡ b → TriedFrom 113 p (cond b (switching_phrase p back_brief) (simply (handler_left_phrase p (size_of w))))
+    go true nested = tried_switch 113 (Ordinary p.gdtr) (KeepsRun p) p back_brief [] refl (λ _. nested) (omega arith) tt
+    go false nested = tried_simply 20 113 p [] (handler_left_phrase p (size_of w)) (omega arith) (plain_left p w)
 
 on_overflow_tried : (p : Proc) → TriedFrom 117 p (on_overflow_phrase p)
 unfolding on_overflow_phrase

@@ -3,6 +3,7 @@ use Rattle.std.proofs.Common.{◌≡◌, ℕ, zero, suc, ◌+◌, ◌*◌, ◌%�
 use Rattle.m386_base.specs.declared.ask.Ask.{Ask}
 use Rattle.m386_base.specs.declared.ask.Role.TheVariants as roles
 use Rattle.m386_base.specs.declared.desc.Desc.{Desc}
+use Rattle.m386_base.specs.declared.kind.SwitchKind.TheVariants.{Iret}
 use Rattle.m386_base.specs.declared.number.Width.{Width}
 use Rattle.m386_base.specs.declared.number.Width.TheVariants.{W32}
 use Rattle.m386_base.specs.Phrase.{Phrase, ◌>>=◌}
@@ -19,7 +20,7 @@ use Rattle.m386_state.specs.declared.segment.TableReg.{TableReg}
 use Rattle.m386_state.specs.Start.{cpl_of, seg_at}
 use Rattle.m386_access.specs.Address.{segment_number, offset_of}
 use Rattle.m386_access.specs.After.{register_of, len_of}
-use Rattle.m386_access.specs.Ordinary.{Ordinary, Keeps, PlainFrom, is_read_role}
+use Rattle.m386_access.specs.Ordinary.{Ordinary, Keeps, PlainFrom, is_nested, is_read_role}
 use Rattle.m386_access.specs.Registers.{esp}
 use Rattle.m386_access.proofs.Phrases.{plain, Stays, keeps_stays, stays_same, Anything}
 use Rattle.m386_segload.specs.declared.rules.Candidate.{Candidate}
@@ -182,8 +183,12 @@ no_start : (far : FarKind) → is_start (switch_kind_of far) ≡ false
 no_start fars.Jump = refl
 no_start fars.Call = refl
 
+no_return : (p : Proc) (far : FarKind) → switch_kind_of far ≡ Iret → is_nested p ≡ true
+no_return p fars.Jump h = cc
+no_return p fars.Call h = cc
+
 task_tried : (p : Proc) (far : FarKind) (selector : ℕ) (direct : Bool) (ts : List Ask) → AreReads ts → Tried 146 (Ordinary p.gdtr) (KeepsRun p) p ts (switching_phrase p (task_brief far selector direct))
-task_tried p far selector direct ts r = tried_switch 146 (Ordinary p.gdtr) (KeepsRun p) p (task_brief far selector direct) ts (no_start far) (omega arith) r
+task_tried p far selector direct ts r = tried_switch 146 (Ordinary p.gdtr) (KeepsRun p) p (task_brief far selector direct) ts (no_start far) (no_return p far) (omega arith) r
 
 task_gate_tried : (p : Proc) (far : FarKind) (c : Candidate) (ts : List Ask) → AreReads ts → Tried 146 (Ordinary p.gdtr) (KeepsRun p) p ts (task_gate_phrase p far c)
 unfolding task_gate_phrase
@@ -200,6 +205,7 @@ to_destination_tried destinations.TaskGate p far w offset c ts f r = task_gate_t
 by_type_tried : (p : Proc) (far : FarKind) (w : Width) (offset : ℕ) (c : Candidate) (ts : List Ask) → Found p c.selector ts c.desc → AreReads ts → Tried 146 (Ordinary p.gdtr) (KeepsRun p) p ts (by_type_phrase p far w offset c)
 unfolding by_type_phrase
 by_type_tried p far w offset c ts f r = to_destination_tried (destination_of c.desc) p far w offset c ts f r
+
 
 table_role_reads : (s : ℕ) → is_read_role (table_role s) ≡ true
 table_role_reads s = go (names_ldt s)

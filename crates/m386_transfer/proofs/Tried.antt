@@ -3,6 +3,7 @@ use Rattle.std.proofs.Common.{◌≡◌, ℕ, zero, suc, ◌+◌, ◌-◌, ◌�
 use Rattle.m386_base.specs.declared.ask.Ask.{Ask}
 use Rattle.m386_base.specs.declared.ask.Role.{Role}
 use Rattle.m386_base.specs.declared.fault.Fault.{Fault}
+use Rattle.m386_base.specs.declared.kind.SwitchKind.TheVariants.{Iret}
 use Rattle.m386_base.specs.declared.split.Piece.{Piece}
 use Rattle.m386_base.specs.Bus.{cycle_of}
 use Rattle.m386_base.specs.Phrase.{Phrase, Done, Faults, Asks, Begins, ◌>>=◌}
@@ -10,7 +11,7 @@ use Rattle.m386_base.specs.Plain.{Plain}
 use Rattle.m386_base.proofs.Plain.{plain_bind, plain_done}
 use Rattle.m386_access.specs.Access.{memory_pieces, reads, read_phrase}
 use Rattle.m386_access.specs.Address.{may_read}
-use Rattle.m386_access.specs.Ordinary.{Ordinary, Keeps}
+use Rattle.m386_access.specs.Ordinary.{Ordinary, Keeps, is_nested}
 use Rattle.m386_checks.specs.Holds.{is_start}
 use Rattle.m386_segload.specs.Descriptors.{word_reads, descriptor_phrase}
 use Rattle.m386_segload.specs.Load.{load_desc_phrase}
@@ -84,9 +85,9 @@ tried_simply m n p ts t l h =
     tried_bind m n (Ordinary p.gdtr) (Keeps p) (KeepsRun p) p ts t ran_whole l h (λ us after k. tried_done (n - m) (Ordinary p.gdtr) (KeepsRun p) p us _ k)
 
 -- a switch behind reads alone
-pub tried_switch : (n : ℕ) (may : List Ask → Ask → Type 0) (ends : List Ask → Executed → Type 0) (p : Proc) (b : Brief) (ts : List Ask) → is_start b.kind ≡ false → switch_bound ≤ n → AreReads ts → Tried n may ends p ts (switching_phrase p b)
+pub tried_switch : (n : ℕ) (may : List Ask → Ask → Type 0) (ends : List Ask → Executed → Type 0) (p : Proc) (b : Brief) (ts : List Ask) → is_start b.kind ≡ false → (b.kind ≡ Iret → is_nested p ≡ true) → switch_bound ≤ n → AreReads ts → Tried n may ends p ts (switching_phrase p b)
 unfolding Tried switching_phrase switch_phrase ◌>>=◌
-tried_switch n may ends p b ts way l r = (l, r, record { brief = b; way = way; known = refl; work = refl })
+tried_switch n may ends p b ts way back l r = (l, r, record { brief = b; way = way; back = back; known = refl; work = refl })
 
 -- each ask of a phrase is a read
 unfoldable pub ReadsAlone : {A : Type 0} → Phrase A → Type 0

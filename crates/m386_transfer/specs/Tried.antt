@@ -1,10 +1,11 @@
 -- The law of an instruction that may end in a task switch.
-use Rattle.std.specs.Prelude.{◌≡◌, ◌≤◌, ℕ, zero, suc, false, List, [], ◌∷◌}
+use Rattle.std.specs.Prelude.{◌≡◌, ◌≤◌, ℕ, zero, suc, true, false, List, [], ◌∷◌}
 use Rattle.std.specs.List.{AllByRecursion}
 use Rattle.m386_base.specs.declared.ask.Ask.{Ask}
+use Rattle.m386_base.specs.declared.kind.SwitchKind.TheVariants.{Iret}
 use Rattle.m386_base.specs.Bus.{cycle_of}
 use Rattle.m386_base.specs.Phrase.{Phrase, Done, Faults, Asks, Begins, Attempt, ◌>>=◌}
-use Rattle.m386_access.specs.Ordinary.{Ordinary, Keeps}
+use Rattle.m386_access.specs.Ordinary.{Ordinary, Keeps, is_nested}
 use Rattle.m386_checks.specs.Holds.{is_start}
 use Rattle.m386_state.specs.declared.proc.Proc.{Proc}
 use Rattle.m386_switch.specs.Switch.{attempt_of, work_phrase}
@@ -17,11 +18,13 @@ use Rattle.m386_transfer.specs.Executed.{came_whole}
 abbrev pub AreReads : List Ask → Type 0
 AreReads ts = AllByRecursion (λ (t : Ask). t.write ≡ false) ts
 
--- A phrase behind the begin of an attempt m is the work of the switch that is asked for in p, and nothing behind it.
--- Source: Intel 80386 PRM 7.5
+-- A phrase behind the begin of an attempt m is the work of the switch that is asked for in p, and nothing behind it. IRET asks for one
+-- only with NT set.
+-- Source: Intel 80386 PRM 7.5; IRET: 17.2.2.11
 pub record IsSwitching (p : Proc) (m : Attempt) (t : Phrase Executed) : Type 0 where
   pub brief : Brief
   pub way : is_start brief.kind ≡ false
+  pub back : brief.kind ≡ Iret → is_nested p ≡ true
   pub known : m ≡ attempt_of p brief.kind brief.selector brief.direct brief.ext
   pub work : t ≡ (work_phrase p brief.kind brief.selector brief.direct brief.ext >>= came_whole)
 
