@@ -29,14 +29,14 @@ exclusive_of I n G gdt =
     }
 
 pub excludes : Exclusion
-excludes kind step law I n start valid begins st ks older place walked none clean =
-    let v = settled kind I n step start older place (tidy_of I valid begins none) law st ks walked (judged_of I older valid begins none clean) in
+excludes step law I n start valid begins st older place walked none clean =
+    let v = settled I n step start older place (tidy_of I valid begins none) law st walked (judged_of I older valid begins none clean) in
     record {
       exclusive = exclusive_of I n (record { cycles = older; at = v.at }) v.keeps.gdt;
-      named = λ p s hp e. (v.keeps.good p hp).holds ∙ ap (λ (g : Stage). holds g.phase) (subst (Settles kind I (v.at p)) e (v.settles p hp)).0;
+      named = λ p s hp e. (v.keeps.good p hp).holds ∙ ap (λ (g : Stage). holds g.phase) (subst (Settles I (v.at p)) e (v.settles p hp)).0;
     }
 
 pub excludes_fronts : ExclusionOfFronts
-excludes_fronts kind step law I n start valid begins st ks newer older place walked none clean =
+excludes_fronts step law I n start valid begins st newer older place walked none clean =
     let w = walked_below step I.first n start newer older place walked in
-    (excludes kind step law I n start valid begins st ks older (place_of step I.first n start older w) (walked_placed step I.first n start older w) none clean).exclusive
+    (excludes step law I n start valid begins st older (place_of step I.first n start older w) (walked_placed step I.first n start older w) none clean).exclusive

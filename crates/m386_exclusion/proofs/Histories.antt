@@ -1,5 +1,5 @@
 -- Exclusion over whole histories.
-use Rattle.std.proofs.Common.{◌≡◌, ◌≢◌, ℕ, zero, suc, ◌<◌, ◌≤◌, ◌==◌, ◌||◌, Bool, true, false, List, [], ◌∷◌, Option, if◌then◌else◌, refl, sym, ap, ◌∙◌, subst, arith, inl, inr}
+use Rattle.std.proofs.Common.{◌≡◌, ◌≢◌, ℕ, zero, suc, ◌<◌, ◌≤◌, ◌==◌, ◌||◌, true, false, List, [], ◌∷◌, Option, if◌then◌else◌, refl, sym, ap, ◌∙◌, subst, arith, inl, inr}
 use Rattle.m386_base.specs.declared.ask.Ask.{Ask}
 use Rattle.m386_base.specs.declared.ask.Cycle.{Cycle}
 use Rattle.m386_base.specs.Bus.{cycle_of}
@@ -12,7 +12,7 @@ use Rattle.m386_exclusion.proofs.After.{at_here, at_others}
 use Rattle.m386_exclusion.proofs.Counts.{test, test-true, test-false}
 use Rattle.m386_exclusion.proofs.Invariant.{cycle_next, step_next, starts, rest_here, rest_others}
 use Rattle.m386_exclusion.specs.Change.{after}
-use Rattle.m386_exclusion.specs.Histories.{Place, Rest, Amid, Reaches, Begins, Enters, Says, Passes, Leaves, of, AreBelow, AreJudged, IsWalked, StepLaw, IsStart, Settles, Settled, Stands, Lands, NoEnd, asked}
+use Rattle.m386_exclusion.specs.Histories.{Place, Rest, Amid, Reaches, Begins, Enters, Says, Passes, Leaves, of, AreBelow, AreJudged, IsWalked, StepLaw, IsStart, Settles, Settled, Stands, NoEnd, asked}
 use Rattle.m386_exclusion.specs.Invariant.{rested}
 use Rattle.m386_exclusion.specs.World.{Setting, World, IsTidy, gdt_reg}
 use Rattle.m386_state.specs.declared.proc.Proc.{Proc}
@@ -31,7 +31,7 @@ turn_lgdt gdt g g2 c n l (Stores w r e) = lgdt_of g g2 _ e l
 turn_lgdt gdt g g2 c n l (Touches s b m h i w e) = lgdt_of g g2 _ e l
 turn_lgdt gdt g g2 c n l (Pops_set tr nt p w r q e) = lgdt_of g g2 _ e (lgdt_read c g n l)
 turn_lgdt gdt g g2 c n l (Claims k nt o t p q e) = lgdt_of g g2 _ e l
-turn_lgdt gdt g g2 c n l (Claims_start nt t p q e) = lgdt_of g g2 _ e l
+turn_lgdt gdt g g2 c n l (Claims_start tr nt t p q e) = lgdt_of g g2 _ e l
 turn_lgdt gdt g g2 c n l (Claims_ltr tr nt t p q e) = lgdt_of g g2 _ e l
 turn_lgdt gdt g g2 c n l (Saves k nt z o t p w h e) = lgdt_of g g2 _ e l
 turn_lgdt gdt g g2 c n l (Saves_flags k nt z o t b p w h i f e) = lgdt_of g g2 _ e l
@@ -56,37 +56,36 @@ pub to_there : (place : ℕ → Place) (p q : ℕ) (pl : Place) → q ≢ p → 
 to_there place p q pl d = rw (test-false q p d) refl
 
 -- Between two cycles a processor goes on: the stages of the others stay.
-still : (kind : Proc → Bool) (I : Setting) (n p : ℕ) (older : List Cycle) (place : ℕ → Place) (a b : Place) → p < n → Settled kind I n older (moved_to place p a) → ((g : Stage) → Settles kind I g a → Settles kind I g b) → Settled kind I n older (moved_to place p b)
-still kind I n p older place a b hp s f = record {
+still : (I : Setting) (n p : ℕ) (older : List Cycle) (place : ℕ → Place) (a b : Place) → p < n → Settled I n older (moved_to place p a) → ((g : Stage) → Settles I g a → Settles I g b) → Settled I n older (moved_to place p b)
+still I n p older place a b hp s f = record {
   at = s.at;
   settles = λ q hq. elim (test q p) [
-    | inl d ↦ subst (λ y. Settles kind I (s.at y) (moved_to place p b y)) (sym d.0) (subst (Settles kind I (s.at p)) (sym (to_here place p b)) (f (s.at p) (subst (Settles kind I (s.at p)) (to_here place p a) (s.settles p hp))))
-    | inr d ↦ subst (Settles kind I (s.at q)) (sym (to_there place p q b d.0)) (subst (Settles kind I (s.at q)) (to_there place p q a d.0) (s.settles q hq))
+    | inl d ↦ subst (λ y. Settles I (s.at y) (moved_to place p b y)) (sym d.0) (subst (Settles I (s.at p)) (sym (to_here place p b)) (f (s.at p) (subst (Settles I (s.at p)) (to_here place p a) (s.settles p hp))))
+    | inr d ↦ subst (Settles I (s.at q)) (sym (to_there place p q b d.0)) (subst (Settles I (s.at q)) (to_there place p q a d.0) (s.settles q hq))
   ];
   keeps = s.keeps;
 }
 
-enter : (kind : Proc → Bool) (I : Setting) (step : Proc → Phrase Proc) (g : Stage) (s : Proc) (request : Option ℕ) → StepLaw kind step → Settles kind I g (Rest s) → Settles kind I g (Amid (asked s request) (step (asked s request)))
-enter kind I step g s request law h =
+enter : (I : Setting) (step : Proc → Phrase Proc) (g : Stage) (s : Proc) (request : Option ℕ) → StepLaw step → Settles I g (Rest s) → Settles I g (Amid (asked s request) (step (asked s request)))
+enter I step g s request law h =
     let r : Proc = asked s request in
-    let own : Turns (on s.gdtr) (Lands kind r) NoEnd (begins s) (step r) = law.keeps r (law.asks s request h.2) in
-    let placed : Turns (on (gdt_reg I)) (Lands kind r) NoEnd (begins s) (step r) = subst (λ t. Turns (on t) (Lands kind r) NoEnd (begins s) (step r)) h.1 own in
-    (h.1, ap (λ (x : Stage). x.lgdt) h.0, subst (λ (x : Stage). Turns (on (gdt_reg I)) (Lands kind r) NoEnd x (step r)) (sym h.0) placed)
+    let own : Turns (on s.gdtr) (Stands r) NoEnd (begins s) (step r) = law r in
+    let placed : Turns (on (gdt_reg I)) (Stands r) NoEnd (begins s) (step r) = subst (λ t. Turns (on t) (Stands r) NoEnd (begins s) (step r)) h.1 own in
+    (h.1, ap (λ (x : Stage). x.lgdt) h.0, subst (λ (x : Stage). Turns (on (gdt_reg I)) (Stands r) NoEnd x (step r)) (sym h.0) placed)
 
 -- a step ends
-leave : (kind : Proc → Bool) (I : Setting) (n p : ℕ) (older : List Cycle) (place : ℕ → Place) (s a : Proc) → IsTidy I → p < n → Settled kind I n older (moved_to place p (Amid s (Done a))) → Settled kind I n older (moved_to place p (Rest a))
+leave : (I : Setting) (n p : ℕ) (older : List Cycle) (place : ℕ → Place) (s a : Proc) → IsTidy I → p < n → Settled I n older (moved_to place p (Amid s (Done a))) → Settled I n older (moved_to place p (Rest a))
 unfolding Turns
-leave kind I n p older place s a tidy hp v =
+leave I n p older place s a tidy hp v =
     let G : World = record { cycles = older; at = v.at } in
-    let h : Settles kind I (v.at p) (Amid s (Done a)) = subst (Settles kind I (v.at p)) (to_here place p (Amid s (Done a))) (v.settles p hp) in
-    let st : Stands s (v.at p) a = h.2.0 in
-    let same : kind a ≡ true = h.2.1 in
+    let h : Settles I (v.at p) (Amid s (Done a)) = subst (Settles I (v.at p)) (to_here place p (Amid s (Done a))) (v.settles p hp) in
+    let st : Stands s (v.at p) a = h.2 in
     let gdtr : a.gdtr ≡ (gdt_reg I) = elim st.gdtr [ inl e ↦ e ∙ h.0 | inr e ↦ absurd (let f : false ≡ true = sym h.1 ∙ e in cc) ] in
     record {
       at = (rested G p a).at;
       settles = λ q hq. elim (test q p) [
-        | inl d ↦ subst (λ y. Settles kind I ((rested G p a).at y) (moved_to place p (Rest a) y)) (sym d.0) (subst (Settles kind I ((rested G p a).at p)) (sym (to_here place p (Rest a))) (rest_here G p a, gdtr, same))
-        | inr d ↦ subst (Settles kind I ((rested G p a).at q)) (sym (to_there place p q (Rest a) d.0)) (subst (λ (g : Stage). Settles kind I g (place q)) (sym (rest_others G p a q d.0)) (subst (Settles kind I (v.at q)) (to_there place p q (Amid s (Done a)) d.0) (v.settles q hq)))
+        | inl d ↦ subst (λ y. Settles I ((rested G p a).at y) (moved_to place p (Rest a) y)) (sym d.0) (subst (Settles I ((rested G p a).at p)) (sym (to_here place p (Rest a))) (rest_here G p a, gdtr))
+        | inr d ↦ subst (Settles I ((rested G p a).at q)) (sym (to_there place p q (Rest a) d.0)) (subst (λ (g : Stage). Settles I g (place q)) (sym (rest_others G p a q d.0)) (subst (Settles I (v.at q)) (to_there place p q (Amid s (Done a)) d.0) (v.settles q hq)))
       ];
       keeps = step_next I n p G a tidy hp st.phase v.keeps;
     }
@@ -118,53 +117,53 @@ pub of-other : (p : ℕ) (c : Cycle) (G : List Cycle) → p ≢ c.cpu → of p (
 unfolding of
 of-other p c G d = rw (test-false c.cpu p (λ e. d (sym e))) refl
 
-pass : (kind : Proc → Bool) (I : Setting) (g : Stage) (s : Proc) (m : Attempt) (t : Phrase Proc) → Settles kind I g (Amid s (BeginsWork m t)) → Settles kind I g (Amid s t)
+pass : (I : Setting) (g : Stage) (s : Proc) (m : Attempt) (t : Phrase Proc) → Settles I g (Amid s (BeginsWork m t)) → Settles I g (Amid s t)
 unfolding Turns
-pass kind I g s m t h = h
+pass I g s m t h = h
 
 -- a processor goes on without a cycle, from the start
-first : (kind : Proc → Bool) (I : Setting) (n p : ℕ) (step : Proc → Phrase Proc) (s0 : Proc) (place : ℕ → Place) (us : List Ask) (pl : Place) → IsTidy I → StepLaw kind step → p < n → us ≡ [] → Reaches step s0 us pl → Settled kind I n [] (moved_to place p (Rest s0)) → Settled kind I n [] (moved_to place p pl)
-first kind I n p step s0 place us pl tidy law hp e Begins v = v
-first kind I n p step s0 place us pl tidy law hp e (Enters {ts = vs} {s = s} r q) v = still kind I n p [] place (Rest s) (Amid (asked s q) (step (asked s q))) hp (first kind I n p step s0 place vs (Rest s) tidy law hp e r v) (λ g h. enter kind I step g s q law h)
-first kind I n p step s0 place us pl tidy law hp e (Says t w f r) v = absurd cc
-first kind I n p step s0 place us pl tidy law hp e (Passes {ts = vs} {s = s} {m = m} {t = t} r) v = still kind I n p [] place (Amid s (BeginsWork m t)) (Amid s t) hp (first kind I n p step s0 place vs (Amid s (BeginsWork m t)) tidy law hp e r v) (λ g h. pass kind I g s m t h)
-first kind I n p step s0 place us pl tidy law hp e (Leaves {ts = vs} {s = s} {after = a} r) v = leave kind I n p [] place s a tidy hp (first kind I n p step s0 place vs (Amid s (Done a)) tidy law hp e r v)
+first : (I : Setting) (n p : ℕ) (step : Proc → Phrase Proc) (s0 : Proc) (place : ℕ → Place) (us : List Ask) (pl : Place) → IsTidy I → StepLaw step → p < n → us ≡ [] → Reaches step s0 us pl → Settled I n [] (moved_to place p (Rest s0)) → Settled I n [] (moved_to place p pl)
+first I n p step s0 place us pl tidy law hp e Begins v = v
+first I n p step s0 place us pl tidy law hp e (Enters {ts = vs} {s = s} r q) v = still I n p [] place (Rest s) (Amid (asked s q) (step (asked s q))) hp (first I n p step s0 place vs (Rest s) tidy law hp e r v) (λ g h. enter I step g s q law h)
+first I n p step s0 place us pl tidy law hp e (Says t w f r) v = absurd cc
+first I n p step s0 place us pl tidy law hp e (Passes {ts = vs} {s = s} {m = m} {t = t} r) v = still I n p [] place (Amid s (BeginsWork m t)) (Amid s t) hp (first I n p step s0 place vs (Amid s (BeginsWork m t)) tidy law hp e r v) (λ g h. pass I g s m t h)
+first I n p step s0 place us pl tidy law hp e (Leaves {ts = vs} {s = s} {after = a} r) v = leave I n p [] place s a tidy hp (first I n p step s0 place vs (Amid s (Done a)) tidy law hp e r v)
 
 -- a cycle is made
-made : (kind : Proc → Bool) (I : Setting) (n : ℕ) (x : Cycle) (older : List Cycle) (place : ℕ → Place) (s : Proc) (q : Ask) (k : ℕ → Phrase Proc) (v : ℕ) → IsTidy I → x.cpu < n → Consistent I.first (x ∷ older) → Unsplit (x ∷ older) → AreJudged I (x ∷ older) → x.ask ≡ cycle_of q v → Settled kind I n older (moved_to place x.cpu (Amid s (Asks q k))) → Settled kind I n (x ∷ older) (moved_to place x.cpu (Amid s (k v)))
+made : (I : Setting) (n : ℕ) (x : Cycle) (older : List Cycle) (place : ℕ → Place) (s : Proc) (q : Ask) (k : ℕ → Phrase Proc) (v : ℕ) → IsTidy I → x.cpu < n → Consistent I.first (x ∷ older) → Unsplit (x ∷ older) → AreJudged I (x ∷ older) → x.ask ≡ cycle_of q v → Settled I n older (moved_to place x.cpu (Amid s (Asks q k))) → Settled I n (x ∷ older) (moved_to place x.cpu (Amid s (k v)))
 unfolding Turns AreJudged
-made kind I n x older place s q k v tidy hp c u a f w =
+made I n x older place s q k v tidy hp c u a f w =
     let p = x.cpu in
     let G : World = record { cycles = older; at = w.at } in
-    let h : Settles kind I (w.at p) (Amid s (Asks q k)) = subst (Settles kind I (w.at p)) (to_here place p (Amid s (Asks q k))) (w.settles p hp) in
+    let h : Settles I (w.at p) (Amid s (Asks q k)) = subst (Settles I (w.at p)) (to_here place p (Amid s (Asks q k))) (w.settles p hp) in
     let t = h.2 v in
     let g2 : Stage = t.0 in
     let turn : Turn (gdt_reg I) (w.at p) x.ask g2 = subst (λ y. Turn (gdt_reg I) (w.at p) y g2) (sym f) t.1 in
-    let new : Settles kind I g2 (Amid s (k v)) = (h.0, turn_lgdt (gdt_reg I) (w.at p) g2 x.ask a.0.lgdt h.1 turn, t.2) in
+    let new : Settles I g2 (Amid s (k v)) = (h.0, turn_lgdt (gdt_reg I) (w.at p) g2 x.ask a.0.lgdt h.1 turn, t.2) in
     record {
       at = (after G x g2).at;
       settles = λ y hy. elim (test y p) [
-        | inl d ↦ subst (λ z. Settles kind I ((after G x g2).at z) (moved_to place p (Amid s (k v)) z)) (sym d.0) (subst (Settles kind I ((after G x g2).at p)) (sym (to_here place p (Amid s (k v)))) (subst (λ (g : Stage). Settles kind I g (Amid s (k v))) (sym (at_here G x g2)) new))
-        | inr d ↦ subst (Settles kind I ((after G x g2).at y)) (sym (to_there place p y (Amid s (k v)) d.0)) (subst (λ (g : Stage). Settles kind I g (place y)) (sym (at_others G x g2 y d.0)) (subst (Settles kind I (w.at y)) (to_there place p y (Amid s (Asks q k)) d.0) (w.settles y hy)))
+        | inl d ↦ subst (λ z. Settles I ((after G x g2).at z) (moved_to place p (Amid s (k v)) z)) (sym d.0) (subst (Settles I ((after G x g2).at p)) (sym (to_here place p (Amid s (k v)))) (subst (λ (g : Stage). Settles I g (Amid s (k v))) (sym (at_here G x g2)) new))
+        | inr d ↦ subst (Settles I ((after G x g2).at y)) (sym (to_there place p y (Amid s (k v)) d.0)) (subst (λ (g : Stage). Settles I g (place y)) (sym (at_others G x g2 y d.0)) (subst (Settles I (w.at y)) (to_there place p y (Amid s (Asks q k)) d.0) (w.settles y hy)))
       ];
       keeps = cycle_next I n x G g2 tidy hp c u a.0 turn w.keeps;
     }
 
 -- a processor makes its newest cycle, and goes on
-advance : (kind : Proc → Bool) (I : Setting) (n : ℕ) (x : Cycle) (older : List Cycle) (step : Proc → Phrase Proc) (s0 : Proc) (place : ℕ → Place) (us : List Ask) (pl : Place) → IsTidy I → StepLaw kind step → x.cpu < n → Consistent I.first (x ∷ older) → Unsplit (x ∷ older) → AreJudged I (x ∷ older) → us ≡ x.ask ∷ of x.cpu older → Reaches step s0 us pl
-    → ((b : Place) → Reaches step s0 (of x.cpu older) b → Settled kind I n older (moved_to place x.cpu b)) → Settled kind I n (x ∷ older) (moved_to place x.cpu pl)
-advance kind I n x older step s0 place us pl tidy law hp c u a e Begins old = absurd cc
-advance kind I n x older step s0 place us pl tidy law hp c u a e (Enters {ts = vs} {s = s} r q) old = still kind I n x.cpu (x ∷ older) place (Rest s) (Amid (asked s q) (step (asked s q))) hp (advance kind I n x older step s0 place vs (Rest s) tidy law hp c u a e r old) (λ g h. enter kind I step g s q law h)
-advance kind I n x older step s0 place us pl tidy law hp c u a e (Says {ts = vs} {s = s} {q = q} {k = k} t v f r) old =
+advance : (I : Setting) (n : ℕ) (x : Cycle) (older : List Cycle) (step : Proc → Phrase Proc) (s0 : Proc) (place : ℕ → Place) (us : List Ask) (pl : Place) → IsTidy I → StepLaw step → x.cpu < n → Consistent I.first (x ∷ older) → Unsplit (x ∷ older) → AreJudged I (x ∷ older) → us ≡ x.ask ∷ of x.cpu older → Reaches step s0 us pl
+    → ((b : Place) → Reaches step s0 (of x.cpu older) b → Settled I n older (moved_to place x.cpu b)) → Settled I n (x ∷ older) (moved_to place x.cpu pl)
+advance I n x older step s0 place us pl tidy law hp c u a e Begins old = absurd cc
+advance I n x older step s0 place us pl tidy law hp c u a e (Enters {ts = vs} {s = s} r q) old = still I n x.cpu (x ∷ older) place (Rest s) (Amid (asked s q) (step (asked s q))) hp (advance I n x older step s0 place vs (Rest s) tidy law hp c u a e r old) (λ g h. enter I step g s q law h)
+advance I n x older step s0 place us pl tidy law hp c u a e (Says {ts = vs} {s = s} {q = q} {k = k} t v f r) old =
     let et : t ≡ x.ask = cc in
     let es : vs ≡ of x.cpu older = cc in
-    made kind I n x older place s q k v tidy hp c u a (sym et ∙ f) (old (Amid s (Asks q k)) (subst (λ w. Reaches step s0 w (Amid s (Asks q k))) es r))
-advance kind I n x older step s0 place us pl tidy law hp c u a e (Passes {ts = vs} {s = s} {m = m} {t = t} r) old = still kind I n x.cpu (x ∷ older) place (Amid s (BeginsWork m t)) (Amid s t) hp (advance kind I n x older step s0 place vs (Amid s (BeginsWork m t)) tidy law hp c u a e r old) (λ g h. pass kind I g s m t h)
-advance kind I n x older step s0 place us pl tidy law hp c u a e (Leaves {ts = vs} {s = s} {after = b} r) old = leave kind I n x.cpu (x ∷ older) place s b tidy hp (advance kind I n x older step s0 place vs (Amid s (Done b)) tidy law hp c u a e r old)
+    made I n x older place s q k v tidy hp c u a (sym et ∙ f) (old (Amid s (Asks q k)) (subst (λ w. Reaches step s0 w (Amid s (Asks q k))) es r))
+advance I n x older step s0 place us pl tidy law hp c u a e (Passes {ts = vs} {s = s} {m = m} {t = t} r) old = still I n x.cpu (x ∷ older) place (Amid s (BeginsWork m t)) (Amid s t) hp (advance I n x older step s0 place vs (Amid s (BeginsWork m t)) tidy law hp c u a e r old) (λ g h. pass I g s m t h)
+advance I n x older step s0 place us pl tidy law hp c u a e (Leaves {ts = vs} {s = s} {after = b} r) old = leave I n x.cpu (x ∷ older) place s b tidy hp (advance I n x older step s0 place vs (Amid s (Done b)) tidy law hp c u a e r old)
 
 -- the same places, named otherwise
-same_places : (kind : Proc → Bool) (I : Setting) (n : ℕ) (older : List Cycle) (a b : ℕ → Place) → ((p : ℕ) → p < n → a p ≡ b p) → Settled kind I n older a → Settled kind I n older b
-same_places kind I n older a b e v = record { at = v.at; settles = λ p hp. subst (Settles kind I (v.at p)) (e p hp) (v.settles p hp); keeps = v.keeps }
+same_places : (I : Setting) (n : ℕ) (older : List Cycle) (a b : ℕ → Place) → ((p : ℕ) → p < n → a p ≡ b p) → Settled I n older a → Settled I n older b
+same_places I n older a b e v = record { at = v.at; settles = λ p hp. subst (Settles I (v.at p)) (e p hp) (v.settles p hp); keeps = v.keeps }
 
 -- the first k processors are where they are said to be, and the others at their starts
 abbrev part_of : (ℕ → Proc) → (ℕ → Place) → ℕ → ℕ → Place
@@ -189,13 +188,13 @@ named_again place p q pl e = elim (test q p) [
   | inr d ↦ sym (to_there place p q pl d.0)
 ]
 
-all_first : (kind : Proc → Bool) (I : Setting) (n : ℕ) (step : Proc → Phrase Proc) (start : ℕ → Proc) (place : ℕ → Place) → IsTidy I → StepLaw kind step → ((p : ℕ) → IsStart I (start p)) → ((p : ℕ) → kind (start p) ≡ true) → ((p : ℕ) → p < n → Reaches step (start p) [] (place p)) → (k : ℕ) → k ≤ n → Settled kind I n [] (part_of start place k)
-all_first kind I n step start place tidy law st ks walks zero h = record { at = λ p. begins (start p); settles = λ p hp. (refl, (st p).gdtr, ks p); keeps = starts I n start st }
-all_first kind I n step start place tidy law st ks walks (suc k) h =
+all_first : (I : Setting) (n : ℕ) (step : Proc → Phrase Proc) (start : ℕ → Proc) (place : ℕ → Place) → IsTidy I → StepLaw step → ((p : ℕ) → IsStart I (start p)) → ((p : ℕ) → p < n → Reaches step (start p) [] (place p)) → (k : ℕ) → k ≤ n → Settled I n [] (part_of start place k)
+all_first I n step start place tidy law st walks zero h = record { at = λ p. begins (start p); settles = λ p hp. (refl, (st p).gdtr); keeps = starts I n start st }
+all_first I n step start place tidy law st walks (suc k) h =
     let b = part_of start place k in
     let hk : k < n = omega (arith, h) in
-    let v = all_first kind I n step start place tidy law st ks walks k (omega (arith, h)) in
-    first kind I n k step (start k) b [] (place k) tidy law hk refl (walks k hk) (same_places kind I n [] b (moved_to b k (Rest (start k))) (λ q hq. named_again b k q (Rest (start k)) (part_above start place k k (omega arith))) v)
+    let v = all_first I n step start place tidy law st walks k (omega (arith, h)) in
+    first I n k step (start k) b [] (place k) tidy law hk refl (walks k hk) (same_places I n [] b (moved_to b k (Rest (start k))) (λ q hq. named_again b k q (Rest (start k)) (part_above start place k k (omega arith))) v)
 
 before : (first : Contents) (n : ℕ) (step : Proc → Phrase Proc) (start : ℕ → Proc) (x : Cycle) (older : List Cycle) (place : ℕ → Place) (b : Place) → IsWalked first n step start (x ∷ older) place → Reaches step (start x.cpu) (of x.cpu older) b → IsWalked first n step start older (moved_to place x.cpu b)
 unfolding AreBelow Consistent Unsplit
@@ -210,10 +209,10 @@ before first n step start x older place b run r = record {
 }
 
 -- The invariant over whole histories.
-pub settled : (kind : Proc → Bool) (I : Setting) (n : ℕ) (step : Proc → Phrase Proc) (start : ℕ → Proc) (older : List Cycle) (place : ℕ → Place) → IsTidy I → StepLaw kind step → ((p : ℕ) → IsStart I (start p)) → ((p : ℕ) → kind (start p) ≡ true) → IsWalked I.first n step start older place → AreJudged I older → Settled kind I n older place
+pub settled : (I : Setting) (n : ℕ) (step : Proc → Phrase Proc) (start : ℕ → Proc) (older : List Cycle) (place : ℕ → Place) → IsTidy I → StepLaw step → ((p : ℕ) → IsStart I (start p)) → IsWalked I.first n step start older place → AreJudged I older → Settled I n older place
 unfolding of AreBelow AreJudged
-settled kind I n step start [] place tidy law st ks run clean = same_places kind I n [] (part_of start place n) place (λ p hp. part_below start place n p hp) (all_first kind I n step start place tidy law st ks run.walks n (omega arith))
-settled kind I n step start (x ∷ older) place tidy law st ks run clean =
+settled I n step start [] place tidy law st run clean = same_places I n [] (part_of start place n) place (λ p hp. part_below start place n p hp) (all_first I n step start place tidy law st run.walks n (omega arith))
+settled I n step start (x ∷ older) place tidy law st run clean =
     let p = x.cpu in
-    let v = advance kind I n x older step (start p) place (of p (x ∷ older)) (place p) tidy law run.below.0 run.consistent run.unsplit clean (of-own x older) (run.walks p run.below.0) (λ b r. settled kind I n step start older (moved_to place p b) tidy law st ks (before I.first n step start x older place b run r) clean.1) in
-    same_places kind I n (x ∷ older) (moved_to place p (place p)) place (λ q hq. sym (named_again place p q (place p) refl)) v
+    let v = advance I n x older step (start p) place (of p (x ∷ older)) (place p) tidy law run.below.0 run.consistent run.unsplit clean (of-own x older) (run.walks p run.below.0) (λ b r. settled I n step start older (moved_to place p b) tidy law st (before I.first n step start x older place b run r) clean.1) in
+    same_places I n (x ∷ older) (moved_to place p (place p)) place (λ q hq. sym (named_again place p q (place p) refl)) v

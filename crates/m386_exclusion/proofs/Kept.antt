@@ -152,7 +152,7 @@ sound_with first gdt x g g2 older tidy c u off nr (Pops_set tr nt p w r q e) s =
     free None n h = tt
     free (Some o) n h = h
 sound_with first gdt x g g2 older tidy c u off nr (Claims k nt o t p q e) s = sound_at first gdt x older g2 _ e (claim_keeps first gdt x g _ older _ t tidy u s.table s.read q) (subst (AreRight first gdt) p s.right, claim_right first gdt x g older _ t tidy u s.table s.read q)
-sound_with first gdt x g g2 older tidy c u off nr (Claims_start nt t p q e) s = sound_at first gdt x older g2 _ e (claim_keeps first gdt x g _ older _ t tidy u s.table s.read q) (claim_right first gdt x g older _ t tidy u s.table s.read q)
+sound_with first gdt x g g2 older tidy c u off nr (Claims_start tr nt t p q e) s = sound_at first gdt x older g2 _ e (claim_keeps first gdt x g _ older _ t tidy u s.table s.read q) (claim_right first gdt x g older _ t tidy u s.table s.read q)
 sound_with first gdt x g g2 older tidy c u off nr (Claims_ltr tr nt t p q e) s = sound_at first gdt x older g2 _ e (claim_keeps first gdt x g _ older _ t tidy u s.table s.read q) (claim_right first gdt x g older _ t tidy u s.table s.read q)
 sound_with first gdt x g g2 older tidy c u off nr (Saves k nt z o t p w h e) s = let r : IsRight first gdt o × IsRight first gdt t = subst (AreRight first gdt) p s.right in sound_at first gdt x older g2 _ e (table_off first gdt x g _ older (λ a b i j. off_saved first gdt o x.ask a b tidy r.0 w h i j) s.table s.read) s.right
 sound_with first gdt x g g2 older tidy c u off nr (Saves_flags k nt z o t b p w h i f e) s = let r : IsRight first gdt o × IsRight first gdt t = subst (AreRight first gdt) p s.right in sound_at first gdt x older g2 _ e (table_off first gdt x g _ older (λ a v j l. off_saved_any first gdt o x.ask a v tidy r.0 w h j l) s.table s.read) r

@@ -1,5 +1,5 @@
 -- What each kind of cycle does to the world: one case for each.
-use Rattle.std.proofs.Common.{◌≡◌, ◌≢◌, ℕ, ◌+◌, ◌*◌, ◌/◌, ◌%◌, ◌^◌, ◌<◌, ◌≤◌, Bool, true, false, List, [], ◌∷◌, ◌++◌, Option, Some, None, refl, sym, ap, ◌∙◌, subst, arith, inl, inr, bit_or, bit_and}
+use Rattle.std.proofs.Common.{◌≡◌, ◌≢◌, ℕ, ◌+◌, ◌*◌, ◌/◌, ◌%◌, ◌^◌, ◌<◌, ◌≤◌, Bool, true, false, List, [], ◌∷◌, ◌++◌, Option, Some, refl, sym, ap, ◌∙◌, subst, arith, inl, inr, bit_or, bit_and}
 use Rattle.std.specs.List.{AllByRecursion}
 use Rattle.m386_base.specs.declared.ask.Ask.{Ask}
 use Rattle.m386_base.specs.declared.ask.Cycle.{Cycle}
@@ -180,9 +180,9 @@ claims_move I n x G g2 k nt o t kn p c e =
 no_true : {A : Type 0} → false ≡ true → A
 no_true e = absurd cc
 
-claims_start_move : (I : Setting) (n : ℕ) (x : Cycle) (G : World) (g2 : Stage) (nt : Bool) (t : Task) → Known I n x G → (G.at x.cpu).phase ≡ Free None nt → IsClaim (gdt_reg I) (G.at x.cpu) x.ask roles.ClaimStart t → g2.phase ≡ Jumped t → Move I x G g2
-claims_start_move I n x G g2 nt t kn p c e =
-    let r = claim_change I n x G g2 false roles.ClaimStart t kn c (λ b. (other_effect x.cpu (num t) b).0) (calm_at G x.cpu (Free None nt) p refl refl) (λ h. no_true h) in
+claims_start_move : (I : Setting) (n : ℕ) (x : Cycle) (G : World) (g2 : Stage) (tr : Option Task) (nt : Bool) (t : Task) → Known I n x G → (G.at x.cpu).phase ≡ Free tr nt → IsClaim (gdt_reg I) (G.at x.cpu) x.ask roles.ClaimStart t → g2.phase ≡ Jumped t → Move I x G g2
+claims_start_move I n x G g2 tr nt t kn p c e =
+    let r = claim_change I n x G g2 false roles.ClaimStart t kn c (λ b. (other_effect x.cpu (num t) b).0) (calm_at G x.cpu (Free tr nt) p refl refl) (λ h. no_true h) in
     moves_at I x G g2 (Jumped t) e r.0 (ap (λ b. b.held x.cpu) r.1 ∙ claimed-holds false x.cpu (num t) (book I G)) tt tt
 
 never : (b : Bool) → (b ≡ true → ⊥) → b ≡ false
@@ -472,7 +472,7 @@ move I n x G g2 k (Stores w r e) = stores_move I n x G g2 k w r (phase_is g2 _ e
 move I n x G g2 k (Touches s b m h i w e) = touches_move I n x G g2 s b k m h w (phase_is g2 _ e)
 move I n x G g2 k (Pops_set tr nt p w r q e) = pops_move I n x G g2 tr nt k p w r q (phase_is g2 _ e)
 move I n x G g2 k (Claims c nt o t p q e) = claims_move I n x G g2 c nt o t k p q (phase_is g2 _ e)
-move I n x G g2 k (Claims_start nt t p q e) = claims_start_move I n x G g2 nt t k p q (phase_is g2 _ e)
+move I n x G g2 k (Claims_start tr nt t p q e) = claims_start_move I n x G g2 tr nt t k p q (phase_is g2 _ e)
 move I n x G g2 k (Claims_ltr tr nt t p q e) = claims_ltr_move I n x G g2 tr nt t k p q (phase_is g2 _ e)
 move I n x G g2 k (Saves c nt z o t p w h e) = saves_move I n x G g2 c nt z o t k p w h (phase_is g2 _ e)
 move I n x G g2 k (Saves_flags c nt z o t b p w h i f e) = saves_flags_move I n x G g2 c nt z o t b k p w h i f (phase_is g2 _ e)

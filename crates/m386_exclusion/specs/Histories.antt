@@ -1,5 +1,5 @@
 -- Whole histories: the cycles of each processor are those of steps, one after another, and of the front of one more.
-use Rattle.std.specs.Prelude.{◌≡◌, ℕ, ◌<◌, ◌==◌, ◌⊎◌, Bool, true, false, List, [], ◌∷◌, ◌++◌, length, slice_index, Option, None, if◌then◌else◌}
+use Rattle.std.specs.Prelude.{◌≡◌, ℕ, ◌<◌, ◌==◌, ◌⊎◌, true, false, List, [], ◌∷◌, ◌++◌, length, slice_index, Option, None, if◌then◌else◌}
 use Rattle.m386_base.specs.declared.ask.Ask.{Ask}
 use Rattle.m386_base.specs.declared.ask.Cycle.{Cycle}
 use Rattle.m386_base.specs.declared.fault.Fault.{Fault}
@@ -31,20 +31,15 @@ pub record Stands (p : Proc) (g : Stage) (after : Proc) : Type 0 where
 abbrev pub asked : Proc → Option ℕ → Proc
 asked p request = record p { request = request }
 
--- where a step may end, among states of a kind
-abbrev pub Lands : (Proc → Bool) → Proc → Stage → Proc → Type 0
-Lands kind p g after = Stands p g after × (kind after ≡ true)
-
 -- a step that ends in a fault leaves no state
 abbrev pub NoEnd : Stage → Fault → Type 0
 NoEnd g fault = Unit {0}
 
--- The law of a step, for the states of some kind: whatever is answered, each of its cycles is a turn from one stage to another, and it
--- ends in a state of the kind that its stage says. A request changes nothing of the kind.
+-- The law of a step: whatever is answered, each of its cycles is a turn from one stage to another, and it ends in a state that its stage
+-- says.
 -- Own choice: docs/DECISIONS.md, "Exclusion"
-pub record StepLaw (kind : Proc → Bool) (step : Proc → Phrase Proc) : Type 0 where
-  pub keeps : (p : Proc) → kind p ≡ true → Turns (on p.gdtr) (Lands kind p) NoEnd (begins p) (step p)
-  pub asks : (p : Proc) (request : Option ℕ) → kind p ≡ true → kind (asked p request) ≡ true
+abbrev pub StepLaw : (Proc → Phrase Proc) → Type 0
+StepLaw step = (p : Proc) → Turns (on p.gdtr) (Stands p) NoEnd (begins p) (step p)
 
 -- ---- where cycles lead a processor
 
@@ -96,14 +91,14 @@ AreJudged I [] = Unit {0}
 AreJudged I (x ∷ older) = IsClean I x.cpu (book_after I.image older) x.ask × AreJudged I older
 
 -- a processor's stage is one from which its place goes on
-abbrev pub Settles : (Proc → Bool) → Setting → Stage → Place → Type 0
-Settles kind I g (Rest s) = (g ≡ begins s) × (s.gdtr ≡ gdt_reg I) × (kind s ≡ true)
-Settles kind I g (Amid s t) = (s.gdtr ≡ gdt_reg I) × (g.lgdt ≡ false) × Turns (on (gdt_reg I)) (Lands kind s) NoEnd g t
+abbrev pub Settles : Setting → Stage → Place → Type 0
+Settles I g (Rest s) = (g ≡ begins s) × (s.gdtr ≡ gdt_reg I)
+Settles I g (Amid s t) = (s.gdtr ≡ gdt_reg I) × (g.lgdt ≡ false) × Turns (on (gdt_reg I)) (Stands s) NoEnd g t
 
 -- stages from which each place goes on, and of which the invariant holds
-pub record Settled (kind : Proc → Bool) (I : Setting) (n : ℕ) (older : List Cycle) (place : ℕ → Place) : Type 0 where
+pub record Settled (I : Setting) (n : ℕ) (older : List Cycle) (place : ℕ → Place) : Type 0 where
   pub at : ℕ → Stage
-  pub settles : (p : ℕ) → p < n → Settles kind I (at p) (place p)
+  pub settles : (p : ℕ) → p < n → Settles I (at p) (place p)
   pub keeps : Invariant I n (record { cycles = older; at = at })
 
 -- ---- the law
@@ -117,14 +112,14 @@ pub record IsExcluded (I : Setting) (n : ℕ) (older : List Cycle) (place : ℕ 
 -- where no rule of the image and no rule of these cycles fails.
 -- Own choice: docs/DECISIONS.md, "Exclusion"
 abbrev pub Exclusion : Type 0
-Exclusion = (kind : Proc → Bool) (step : Proc → Phrase Proc) → StepLaw kind step
-    → (I : Setting) (n : ℕ) (start : ℕ → Proc) → IsValid I.image → BeginsAs I → ((p : ℕ) → IsStart I (start p)) → ((p : ℕ) → kind (start p) ≡ true)
+Exclusion = (step : Proc → Phrase Proc) → StepLaw step
+    → (I : Setting) (n : ℕ) (start : ℕ → Proc) → IsValid I.image → BeginsAs I → ((p : ℕ) → IsStart I (start p))
     → (older : List Cycle) (place : ℕ → Place) → IsWalked I.first n step start older place → NoneStatic I.image → AreClean I.image older
     → IsExcluded I n older place
 
 -- The same of each front of a history: only its own cycles are to be clean, and not the newer ones behind it.
 abbrev pub ExclusionOfFronts : Type 0
-ExclusionOfFronts = (kind : Proc → Bool) (step : Proc → Phrase Proc) → StepLaw kind step
-    → (I : Setting) (n : ℕ) (start : ℕ → Proc) → IsValid I.image → BeginsAs I → ((p : ℕ) → IsStart I (start p)) → ((p : ℕ) → kind (start p) ≡ true)
+ExclusionOfFronts = (step : Proc → Phrase Proc) → StepLaw step
+    → (I : Setting) (n : ℕ) (start : ℕ → Proc) → IsValid I.image → BeginsAs I → ((p : ℕ) → IsStart I (start p))
     → (newer older : List Cycle) (place : ℕ → Place) → IsWalked I.first n step start (newer ++ older) place → NoneStatic I.image → AreClean I.image older
     → Exclusive I n older

@@ -19,7 +19,7 @@ use Rattle.m386_state.specs.declared.segment.TableReg.{TableReg}
 use Rattle.m386_tss.specs.Orders.{saved_fields}
 use Rattle.m386_switch.specs.Parts.{is_admitted, is_iret, link_phrase, with_tss, claim_phrase, claim_role, saves, saved_flags, save_phrase, relink_phrase, release_phrase, clear_phrase}
 use Rattle.m386_switch.specs.Switch.{entered, entered_flags, facts_at_first, stayed, leave_phrase, enter_phrase, claimed_phrase, named_phrase, work_phrase, switch_phrase}
-use Rattle.m386_stages.specs.Stages.{Stage, Phase, Free, Turned, Called, Jumped, Backing, Returned, Ready, Task, Turn, Claims, Claims_start, Releases, Returns, Keeps, shut, IsBase, IsClaim, nt_set, task_of, EndsIn, begins, segment_byte, Left, Allowed}
+use Rattle.m386_stages.specs.Stages.{Stage, Phase, Free, Turned, Called, Jumped, Backing, Returned, Ready, Task, Turn, Claims, Claims_start, Releases, Returns, Keeps, shut, IsBase, IsClaim, nt_set, task_of, EndsIn, begins, segment_byte, Left, Allowed, MayNest}
 use Rattle.m386_stages.proofs.Chains.{keeps_then, keeps_done, keeps_if}
 use Rattle.m386_stages.proofs.OneByte.{keeps_clear}
 use Rattle.m386_stages.proofs.Saved.{Stays}
@@ -104,71 +104,71 @@ named_keeps p f role ph0 ph ph_end g i er ei em n e s turn leave ends =
     (λ q. keeps_done p.gdtr (Left p) g _ (stays p f g ph0 e s))
 
 -- where TR is usable
-free_named : (p : Proc) → p.tr.usable ≡ true → Free (task_of p.tr) (is_nested p) ≡ Free (Some (tr_task p)) (is_nested p)
-free_named p u = ap (λ t. Free t (is_nested p)) (has_task p.tr u)
+free_named : (p : Proc) (nt : Bool) → p.tr.usable ≡ true → Free (task_of p.tr) nt ≡ Free (Some (tr_task p)) nt
+free_named p nt u = ap (λ t. Free t nt) (has_task p.tr u)
 
-free_ends : (p : Proc) → p.tr.usable ≡ true → EndsIn p (Free (Some (tr_task p)) (is_nested p))
-free_ends p u = (has_task p.tr u, λ h. h)
+free_ends : (p : Proc) (nt : Bool) → MayNest p nt → p.tr.usable ≡ true → EndsIn p (Free (Some (tr_task p)) nt)
+free_ends p nt m u = (has_task p.tr u, m)
 
 -- JMP and CALL and events save NT as it is
-turned_saves : (p : Proc) (kind : SwitchKind) (k : Bool) (t : Task) (g : Stage) → saved_flags kind p.eflags ≡ p.eflags → g.phase ≡ Turned k (tr_task p) t (is_nested p) false → Keeps p.gdtr (Stays (Turned k (tr_task p) t (is_nested p) true) g) g (saves kind p saved_fields)
-turned_saves p kind k t g same e = keeps_all_saves p.gdtr k (is_nested p) (tr_task p) t kind p g refl (λ h. nt_saved p.eflags.0 (subst (λ (v : Flags). nt_set (byte v.0 1) ≡ true) same h)) e
+turned_saves : (p : Proc) (nt : Bool) (kind : SwitchKind) (k : Bool) (t : Task) (g : Stage) → MayNest p nt → saved_flags kind p.eflags ≡ p.eflags → g.phase ≡ Turned k (tr_task p) t nt false → Keeps p.gdtr (Stays (Turned k (tr_task p) t nt true) g) g (saves kind p saved_fields)
+turned_saves p nt kind k t g m same e = keeps_all_saves p.gdtr k nt (tr_task p) t kind p g refl (λ h. m (nt_saved p.eflags.0 (subst (λ (v : Flags). nt_set (byte v.0 1) ≡ true) same h))) e
 
-jmp_leave : (p : Proc) (t : Task) (base : ℕ) (g : Stage) → g.phase ≡ Turned false (tr_task p) t (is_nested p) false → Keeps p.gdtr (λ g2 u. g2.phase ≡ Jumped t) g (leave_phrase p switches.Jmp base)
+jmp_leave : (p : Proc) (nt : Bool) (t : Task) (base : ℕ) (g : Stage) → MayNest p nt → g.phase ≡ Turned false (tr_task p) t nt false → Keeps p.gdtr (λ g2 u. g2.phase ≡ Jumped t) g (leave_phrase p switches.Jmp base)
 unfolding leave_phrase save_phrase relink_phrase release_phrase ◌>>=◌
-jmp_leave p t base g e =
-    keeps_then p.gdtr (Stays (Turned false (tr_task p) t (is_nested p) true) g) (λ g2 u. g2.phase ≡ Jumped t) g (saves switches.Jmp p saved_fields) _ (turned_saves p switches.Jmp false t g refl e) (λ u g1 a.
-    keeps_clear p.gdtr g1 roles.RelJmp (tr_task p) (Jumped t) (λ g2 c h m r. Releases (is_nested p) (tr_task p) t (h ∙ a.0) r refl))
+jmp_leave p nt t base g m e =
+    keeps_then p.gdtr (Stays (Turned false (tr_task p) t nt true) g) (λ g2 u. g2.phase ≡ Jumped t) g (saves switches.Jmp p saved_fields) _ (turned_saves p nt switches.Jmp false t g m refl e) (λ u g1 a.
+    keeps_clear p.gdtr g1 roles.RelJmp (tr_task p) (Jumped t) (λ g2 c h m r. Releases nt (tr_task p) t (h ∙ a.0) r refl))
 
 jmp_ends : (p : Proc) (f : Facts) (d : Desc) (l : List ℕ) (f2 : Facts) → f.kind ≡ switches.Jmp → Alike f f2 → EndsIn (entered p d l f2) (Jumped (task_in f.selector d))
 jmp_ends p f d l f2 k s = (ap (λ x. Some (task_in x d)) s.1, (let q : f2.kind ≡ switches.Jmp = s.0 ∙ k in ap (λ x. nt14 (entered_flags x (slice_index l 1)).0) q ∙ entered_nested switches.Jmp (slice_index l 1)))
 
-jmp_named : (p : Proc) (g : Stage) (selector : ℕ) (direct ext : Bool) → g.phase ≡ Free (task_of p.tr) (is_nested p) → p.tr.usable ≡ true → Keeps p.gdtr (Left p) g (named_phrase p (facts_at_first p switches.Jmp selector direct ext))
-jmp_named p g selector direct ext e u =
-    named_keeps p (facts_at_first p switches.Jmp selector direct ext) roles.ClaimJmp (Free (Some (tr_task p)) (is_nested p)) (λ t. Turned false (tr_task p) t (is_nested p) false) Jumped g refl refl refl refl refl (e ∙ free_named p u) (free_ends p u)
-    (λ g1 c t h q. Claims false (is_nested p) (tr_task p) t h q refl)
-    (λ d g1 e. jmp_leave p (task_in selector d) d.base g1 e)
+jmp_named : (p : Proc) (nt : Bool) (g : Stage) (selector : ℕ) (direct ext : Bool) → MayNest p nt → g.phase ≡ Free (task_of p.tr) nt → p.tr.usable ≡ true → Keeps p.gdtr (Left p) g (named_phrase p (facts_at_first p switches.Jmp selector direct ext))
+jmp_named p nt g selector direct ext m e u =
+    named_keeps p (facts_at_first p switches.Jmp selector direct ext) roles.ClaimJmp (Free (Some (tr_task p)) nt) (λ t. Turned false (tr_task p) t nt false) Jumped g refl refl refl refl refl (e ∙ free_named p nt u) (free_ends p nt m u)
+    (λ g1 c t h q. Claims false nt (tr_task p) t h q refl)
+    (λ d g1 e. jmp_leave p nt (task_in selector d) d.base g1 m e)
     (λ d l f2 s. jmp_ends p (facts_at_first p switches.Jmp selector direct ext) d l f2 refl s)
 
 -- A JMP keeps to the stages.
-jmp_keeps : (p : Proc) (g : Stage) (selector : ℕ) (direct ext : Bool) → g.phase ≡ Free (task_of p.tr) (is_nested p) → Keeps p.gdtr (Left p) g (work_phrase p switches.Jmp selector direct ext)
+jmp_keeps : (p : Proc) (nt : Bool) (g : Stage) (selector : ℕ) (direct ext : Bool) → MayNest p nt → g.phase ≡ Free (task_of p.tr) nt → Keeps p.gdtr (Left p) g (work_phrase p switches.Jmp selector direct ext)
 unfolding work_phrase link_phrase ◌>>=◌
-jmp_keeps p g selector direct ext e =
+jmp_keeps p nt g selector direct ext m e =
     keeps_if p.gdtr (Left p) g p.tr.usable (named_phrase p (facts_at_first p switches.Jmp selector direct ext)) (Done (stayed p (facts_at_first p switches.Jmp selector direct ext)))
-    (λ u. jmp_named p g selector direct ext e u)
-    (λ u. keeps_done p.gdtr (Left p) g _ (stays p (facts_at_first p switches.Jmp selector direct ext) g (Free (task_of p.tr) (is_nested p)) e (refl, λ h. h)))
+    (λ u. jmp_named p nt g selector direct ext m e u)
+    (λ u. keeps_done p.gdtr (Left p) g _ (stays p (facts_at_first p switches.Jmp selector direct ext) g (Free (task_of p.tr) nt) e (refl, m)))
 
-call_leave : (p : Proc) (t : Task) (g : Stage) → g.phase ≡ Turned true (tr_task p) t (is_nested p) false → Keeps p.gdtr (λ g2 u. g2.phase ≡ Called t) g (leave_phrase p switches.Call t.base)
+call_leave : (p : Proc) (nt : Bool) (t : Task) (g : Stage) → MayNest p nt → g.phase ≡ Turned true (tr_task p) t nt false → Keeps p.gdtr (λ g2 u. g2.phase ≡ Called t) g (leave_phrase p switches.Call t.base)
 unfolding leave_phrase save_phrase relink_phrase release_phrase
-call_leave p t g e =
-    keeps_then p.gdtr (Stays (Turned true (tr_task p) t (is_nested p) true) g) (λ g2 u. g2.phase ≡ Called t) g (saves switches.Call p saved_fields) _ (turned_saves p switches.Call true t g refl e) (λ u g1 a.
-    keeps_then p.gdtr (λ g2 u. g2.phase ≡ Called t) (λ g2 u. g2.phase ≡ Called t) g1 _ _ (keeps_link p.gdtr (is_nested p) (tr_task p) t g1 a.0) (λ w g2 h. keeps_done p.gdtr (λ g2 u. g2.phase ≡ Called t) g2 tt h))
+call_leave p nt t g m e =
+    keeps_then p.gdtr (Stays (Turned true (tr_task p) t nt true) g) (λ g2 u. g2.phase ≡ Called t) g (saves switches.Call p saved_fields) _ (turned_saves p nt switches.Call true t g m refl e) (λ u g1 a.
+    keeps_then p.gdtr (λ g2 u. g2.phase ≡ Called t) (λ g2 u. g2.phase ≡ Called t) g1 _ _ (keeps_link p.gdtr nt (tr_task p) t g1 a.0) (λ w g2 h. keeps_done p.gdtr (λ g2 u. g2.phase ≡ Called t) g2 tt h))
 
-call_keeps : (p : Proc) (g : Stage) (selector : ℕ) (direct ext : Bool) → g.phase ≡ Free (task_of p.tr) (is_nested p) → Keeps p.gdtr (Left p) g (work_phrase p switches.Call selector direct ext)
+call_keeps : (p : Proc) (nt : Bool) (g : Stage) (selector : ℕ) (direct ext : Bool) → MayNest p nt → g.phase ≡ Free (task_of p.tr) nt → Keeps p.gdtr (Left p) g (work_phrase p switches.Call selector direct ext)
 unfolding work_phrase link_phrase ◌>>=◌
-call_keeps p g selector direct ext e =
+call_keeps p nt g selector direct ext m e =
     keeps_if p.gdtr (Left p) g p.tr.usable (named_phrase p (facts_at_first p switches.Call selector direct ext)) (Done (stayed p (facts_at_first p switches.Call selector direct ext)))
-    (λ u. named_keeps p (facts_at_first p switches.Call selector direct ext) roles.ClaimCall (Free (Some (tr_task p)) (is_nested p)) (λ t. Turned true (tr_task p) t (is_nested p) false) Called g refl refl refl refl refl (e ∙ free_named p u) (free_ends p u)
-    (λ g1 c t h q. Claims true (is_nested p) (tr_task p) t h q refl)
-    (λ d g1 e. call_leave p (task_in selector d) g1 e)
+    (λ u. named_keeps p (facts_at_first p switches.Call selector direct ext) roles.ClaimCall (Free (Some (tr_task p)) nt) (λ t. Turned true (tr_task p) t nt false) Called g refl refl refl refl refl (e ∙ free_named p nt u) (free_ends p nt m u)
+    (λ g1 c t h q. Claims true nt (tr_task p) t h q refl)
+    (λ d g1 e. call_leave p nt (task_in selector d) g1 m e)
     (λ d l f2 s. ap (λ x. Some (task_in x d)) s.1))
-    (λ u. keeps_done p.gdtr (Left p) g _ (stays p (facts_at_first p switches.Call selector direct ext) g (Free (task_of p.tr) (is_nested p)) e (refl, λ h. h)))
+    (λ u. keeps_done p.gdtr (Left p) g _ (stays p (facts_at_first p switches.Call selector direct ext) g (Free (task_of p.tr) nt) e (refl, m)))
 
-event_leave : (p : Proc) (t : Task) (g : Stage) → g.phase ≡ Turned true (tr_task p) t (is_nested p) false → Keeps p.gdtr (λ g2 u. g2.phase ≡ Called t) g (leave_phrase p switches.Event t.base)
+event_leave : (p : Proc) (nt : Bool) (t : Task) (g : Stage) → MayNest p nt → g.phase ≡ Turned true (tr_task p) t nt false → Keeps p.gdtr (λ g2 u. g2.phase ≡ Called t) g (leave_phrase p switches.Event t.base)
 unfolding leave_phrase save_phrase relink_phrase release_phrase
-event_leave p t g e =
-    keeps_then p.gdtr (Stays (Turned true (tr_task p) t (is_nested p) true) g) (λ g2 u. g2.phase ≡ Called t) g (saves switches.Event p saved_fields) _ (turned_saves p switches.Event true t g refl e) (λ u g1 a.
-    keeps_then p.gdtr (λ g2 u. g2.phase ≡ Called t) (λ g2 u. g2.phase ≡ Called t) g1 _ _ (keeps_link p.gdtr (is_nested p) (tr_task p) t g1 a.0) (λ w g2 h. keeps_done p.gdtr (λ g2 u. g2.phase ≡ Called t) g2 tt h))
+event_leave p nt t g m e =
+    keeps_then p.gdtr (Stays (Turned true (tr_task p) t nt true) g) (λ g2 u. g2.phase ≡ Called t) g (saves switches.Event p saved_fields) _ (turned_saves p nt switches.Event true t g m refl e) (λ u g1 a.
+    keeps_then p.gdtr (λ g2 u. g2.phase ≡ Called t) (λ g2 u. g2.phase ≡ Called t) g1 _ _ (keeps_link p.gdtr nt (tr_task p) t g1 a.0) (λ w g2 h. keeps_done p.gdtr (λ g2 u. g2.phase ≡ Called t) g2 tt h))
 
-event_keeps : (p : Proc) (g : Stage) (selector : ℕ) (direct ext : Bool) → g.phase ≡ Free (task_of p.tr) (is_nested p) → Keeps p.gdtr (Left p) g (work_phrase p switches.Event selector direct ext)
+event_keeps : (p : Proc) (nt : Bool) (g : Stage) (selector : ℕ) (direct ext : Bool) → MayNest p nt → g.phase ≡ Free (task_of p.tr) nt → Keeps p.gdtr (Left p) g (work_phrase p switches.Event selector direct ext)
 unfolding work_phrase link_phrase ◌>>=◌
-event_keeps p g selector direct ext e =
+event_keeps p nt g selector direct ext m e =
     keeps_if p.gdtr (Left p) g p.tr.usable (named_phrase p (facts_at_first p switches.Event selector direct ext)) (Done (stayed p (facts_at_first p switches.Event selector direct ext)))
-    (λ u. named_keeps p (facts_at_first p switches.Event selector direct ext) roles.ClaimCall (Free (Some (tr_task p)) (is_nested p)) (λ t. Turned true (tr_task p) t (is_nested p) false) Called g refl refl refl refl refl (e ∙ free_named p u) (free_ends p u)
-    (λ g1 c t h q. Claims true (is_nested p) (tr_task p) t h q refl)
-    (λ d g1 e. event_leave p (task_in selector d) g1 e)
+    (λ u. named_keeps p (facts_at_first p switches.Event selector direct ext) roles.ClaimCall (Free (Some (tr_task p)) nt) (λ t. Turned true (tr_task p) t nt false) Called g refl refl refl refl refl (e ∙ free_named p nt u) (free_ends p nt m u)
+    (λ g1 c t h q. Claims true nt (tr_task p) t h q refl)
+    (λ d g1 e. event_leave p nt (task_in selector d) g1 m e)
     (λ d l f2 s. ap (λ x. Some (task_in x d)) s.1))
-    (λ u. keeps_done p.gdtr (Left p) g _ (stays p (facts_at_first p switches.Event selector direct ext) g (Free (task_of p.tr) (is_nested p)) e (refl, λ h. h)))
+    (λ u. keeps_done p.gdtr (Left p) g _ (stays p (facts_at_first p switches.Event selector direct ext) g (Free (task_of p.tr) nt) e (refl, m)))
 
 start_leave : (p : Proc) (t : Task) (base : ℕ) (g : Stage) → g.phase ≡ Jumped t → Keeps p.gdtr (λ g2 u. g2.phase ≡ Jumped t) g (leave_phrase p switches.Start base)
 unfolding leave_phrase save_phrase relink_phrase release_phrase ◌>>=◌
@@ -177,12 +177,12 @@ start_leave p t base g e = keeps_done p.gdtr (λ g2 u. g2.phase ≡ Jumped t) g 
 start_ends : (p : Proc) (f : Facts) (d : Desc) (l : List ℕ) (f2 : Facts) → f.kind ≡ switches.Start → Alike f f2 → EndsIn (entered p d l f2) (Jumped (task_in f.selector d))
 start_ends p f d l f2 k s = (ap (λ x. Some (task_in x d)) s.1, (let q : f2.kind ≡ switches.Start = s.0 ∙ k in ap (λ x. nt14 (entered_flags x (slice_index l 1)).0) q ∙ entered_nested switches.Start (slice_index l 1)))
 
--- A start keeps to the stages where TR isn't usable.
-start_keeps : (p : Proc) (g : Stage) (selector : ℕ) (direct ext : Bool) → g.phase ≡ Free (task_of p.tr) (is_nested p) → p.tr.usable ≡ false → Keeps p.gdtr (Left p) g (work_phrase p switches.Start selector direct ext)
+-- A start keeps to the stages, whatever TR is.
+start_keeps : (p : Proc) (nt : Bool) (g : Stage) (selector : ℕ) (direct ext : Bool) → MayNest p nt → g.phase ≡ Free (task_of p.tr) nt → Keeps p.gdtr (Left p) g (work_phrase p switches.Start selector direct ext)
 unfolding work_phrase link_phrase ◌>>=◌
-start_keeps p g selector direct ext e u =
-    named_keeps p (facts_at_first p switches.Start selector direct ext) roles.ClaimStart (Free None (is_nested p)) Jumped Jumped g refl refl refl refl refl (e ∙ ap (λ t. Free t (is_nested p)) (no_task p.tr u)) (no_task p.tr u, λ h. h)
-    (λ g1 c t h q. Claims_start (is_nested p) t h q refl)
+start_keeps p nt g selector direct ext m e =
+    named_keeps p (facts_at_first p switches.Start selector direct ext) roles.ClaimStart (Free (task_of p.tr) nt) Jumped Jumped g refl refl refl refl refl e (refl, m)
+    (λ g1 c t h q. Claims_start (task_of p.tr) nt t h q refl)
     (λ d g1 e. start_leave p (task_in selector d) d.base g1 e)
     (λ d l f2 s. start_ends p (facts_at_first p switches.Start selector direct ext) d l f2 refl s)
 
@@ -224,24 +224,24 @@ iret_named p selector direct ext bs lo hi g u e hl hh s =
     f = facts_at_first p switches.Iret selector direct ext
 
 -- An IRET keeps to the stages where NT is 1.
-iret_keeps : (p : Proc) (g : Stage) (selector : ℕ) (direct ext : Bool) → g.phase ≡ Free (task_of p.tr) (is_nested p) → is_nested p ≡ true → Keeps p.gdtr (Left p) g (work_phrase p switches.Iret selector direct ext)
+iret_keeps : (p : Proc) (nt : Bool) (g : Stage) (selector : ℕ) (direct ext : Bool) → MayNest p nt → g.phase ≡ Free (task_of p.tr) nt → is_nested p ≡ true → Keeps p.gdtr (Left p) g (work_phrase p switches.Iret selector direct ext)
 unfolding work_phrase link_phrase
-iret_keeps p g selector direct ext e nt =
+iret_keeps p nt g selector direct ext m e is =
     keeps_if p.gdtr (Left p) g p.tr.usable ((field_phrase roles.Back p.tr.desc.base 0 >>= (λ v. Done (v % 2 ^ 16))) >>= (λ named. named_phrase p (facts_at_first p switches.Iret named direct ext))) (Done (stayed p (facts_at_first p switches.Iret selector direct ext)))
     (λ u. keeps_then p.gdtr (λ g2 s. Linked p s g2) (Left p) g (field_phrase roles.Back p.tr.desc.base 0 >>= (λ v. Done (v % 2 ^ 16))) _
-    (keeps_then p.gdtr (GotLink (tr_task p) g) (λ g2 s. Linked p s g2) g (field_phrase roles.Back p.tr.desc.base 0) _ (keeps_back p.gdtr (tr_task p) g (e ∙ ap (λ t. Free t (is_nested p)) (has_task p.tr u) ∙ ap (Free (Some (tr_task p))) nt))
+    (keeps_then p.gdtr (GotLink (tr_task p) g) (λ g2 s. Linked p s g2) g (field_phrase roles.Back p.tr.desc.base 0) _ (keeps_back p.gdtr (tr_task p) g (e ∙ ap (λ t. Free t nt) (has_task p.tr u) ∙ ap (Free (Some (tr_task p))) (m is)))
     (λ v g1 h. keeps_done p.gdtr (λ g2 s. Linked p s g2) g1 (v % 2 ^ 16) (record { bs = h.bs; lo = v % 2 ^ 8; hi = v / 2 ^ 8 % 2 ^ 8; phase = h.phase; low = h.low; high = h.high; sum = (let l = h.short in omega (arith, l)) })))
     (λ s g2 h. iret_named p s direct ext h.bs h.lo h.hi g2 u h.phase h.low h.high h.sum))
-    (λ u. keeps_done p.gdtr (Left p) g _ (stays p (facts_at_first p switches.Iret selector direct ext) g (Free (task_of p.tr) (is_nested p)) e (refl, λ h. h)))
+    (λ u. keeps_done p.gdtr (Left p) g _ (stays p (facts_at_first p switches.Iret selector direct ext) g (Free (task_of p.tr) nt) e (refl, m)))
 
 -- Each kind of switch keeps to the stages from any stage before a claim, and ends in the state that its stage says.
-pub switch_keeps_from : (p : Proc) (g : Stage) (kind : SwitchKind) (selector : ℕ) (direct ext : Bool) → g.phase ≡ Free (task_of p.tr) (is_nested p) → Allowed p kind → Keeps p.gdtr (Left p) g (switch_phrase p kind selector direct ext)
-unfolding Keeps Turns switch_phrase
-switch_keeps_from p g switches.Jmp selector direct ext e h = jmp_keeps p g selector direct ext e
-switch_keeps_from p g switches.Call selector direct ext e h = call_keeps p g selector direct ext e
-switch_keeps_from p g switches.Event selector direct ext e h = event_keeps p g selector direct ext e
-switch_keeps_from p g switches.Iret selector direct ext e h = iret_keeps p g selector direct ext e h
-switch_keeps_from p g switches.Start selector direct ext e h = start_keeps p g selector direct ext e h
+pub switch_keeps_from : (p : Proc) (nt : Bool) (g : Stage) (kind : SwitchKind) (selector : ℕ) (direct ext : Bool) → MayNest p nt → g.phase ≡ Free (task_of p.tr) nt → Allowed p kind → Keeps p.gdtr (Left p) g (work_phrase p kind selector direct ext)
+switch_keeps_from p nt g switches.Jmp selector direct ext m e h = jmp_keeps p nt g selector direct ext m e
+switch_keeps_from p nt g switches.Call selector direct ext m e h = call_keeps p nt g selector direct ext m e
+switch_keeps_from p nt g switches.Event selector direct ext m e h = event_keeps p nt g selector direct ext m e
+switch_keeps_from p nt g switches.Iret selector direct ext m e h = iret_keeps p nt g selector direct ext m e h
+switch_keeps_from p nt g switches.Start selector direct ext m e h = start_keeps p nt g selector direct ext m e
 
 pub switch_keeps : (p : Proc) (kind : SwitchKind) (selector : ℕ) (direct ext : Bool) → Allowed p kind → Keeps p.gdtr (Left p) (begins p) (switch_phrase p kind selector direct ext)
-switch_keeps p kind selector direct ext h = switch_keeps_from p (begins p) kind selector direct ext refl h
+unfolding Keeps Turns switch_phrase
+switch_keeps p kind selector direct ext h = switch_keeps_from p (is_nested p) (begins p) kind selector direct ext (λ n. n) refl h

@@ -132,7 +132,7 @@ pub data Turn (gdt : TableReg) (g : Stage) (c : Ask) (g2 : Stage) : Type 0 where
   Touches : (selector b : ℕ) → NamesGdt gdt selector → Has g.group (desc_byte gdt selector 5) b → IsSegmentByte b → IsByteWritten c roles.GdtAcc (desc_byte gdt selector 5) (bit_or b 1) → g2 ≡ shut g g.phase → Turn gdt g c g2
   Pops_set : (tr : Option Task) (nt : Bool) → g.phase ≡ Free tr nt → c.write ≡ false → c.role ≡ roles.Flags → has_nt c ≡ true → g2 ≡ hears g c (Free tr true) → Turn gdt g c g2
   Claims : (k nt : Bool) (o t : Task) → g.phase ≡ Free (Some o) nt → IsClaim gdt g c (claiming k) t → g2 ≡ shut g (Turned k o t nt false) → Turn gdt g c g2
-  Claims_start : (nt : Bool) (t : Task) → g.phase ≡ Free None nt → IsClaim gdt g c roles.ClaimStart t → g2 ≡ shut g (Jumped t) → Turn gdt g c g2
+  Claims_start : (tr : Option Task) (nt : Bool) (t : Task) → g.phase ≡ Free tr nt → IsClaim gdt g c roles.ClaimStart t → g2 ≡ shut g (Jumped t) → Turn gdt g c g2
   Claims_ltr : (tr : Option Task) (nt : Bool) (t : Task) → g.phase ≡ Free tr nt → IsClaim gdt g c roles.ClaimLtr t → g2 ≡ shut g (Loaded t nt) → Turn gdt g c g2
   Saves : (k nt z : Bool) (o t : Task) → g.phase ≡ Turned k o t nt z → IsWritten c roles.Save → AllByRecursion (λ (b : ℕ × ℕ). IsSaved o.base b.0) (bytes_of c) → g2 ≡ shut g g.phase → Turn gdt g c g2
   Saves_flags : (k nt z : Bool) (o t : Task) (x : ℕ) → g.phase ≡ Turned k o t nt z → IsWritten c roles.Save → AllByRecursion (λ (b : ℕ × ℕ). IsSavedAny o.base b.0) (bytes_of c) → Has (bytes_of c) (segment_byte o.base 37) x → (nt_set x ≡ true → nt ≡ true) → g2 ≡ shut g (Turned k o t nt true) → Turn gdt g c g2
@@ -158,14 +158,18 @@ Keeps gdt P g t = Turns (on gdt) P (λ s f. ⊥) g t
 abbrev pub task_of : Seg → Option Task
 task_of s = if s.usable then Some (record { selector = s.selector; base = s.desc.base }) else None
 
+-- NT is set in a state only where it may be
+abbrev pub MayNest : Proc → Bool → Type 0
+MayNest p nt = is_nested p ≡ true → nt ≡ true
+
 -- where a state may stand at the end of a step
 abbrev pub EndsIn : Proc → Phase → Type 0
-EndsIn p (Free tr nt) = (task_of p.tr ≡ tr) × (is_nested p ≡ true → nt ≡ true)
+EndsIn p (Free tr nt) = (task_of p.tr ≡ tr) × MayNest p nt
 EndsIn p (Turned k o t nt z) = ⊥
 EndsIn p (Linking o t) = ⊥
 EndsIn p (Called t) = task_of p.tr ≡ Some t
 EndsIn p (Jumped t) = (task_of p.tr ≡ Some t) × (is_nested p ≡ false)
-EndsIn p (Loaded t nt) = (task_of p.tr ≡ Some t) × (is_nested p ≡ nt)
+EndsIn p (Loaded t nt) = (task_of p.tr ≡ Some t) × MayNest p nt
 EndsIn p (Backing o bs) = task_of p.tr ≡ Some o
 EndsIn p (Returned x) = ⊥
 EndsIn p (Ready x nt) = (task_of p.tr ≡ Some x) × (is_nested p ≡ nt)
@@ -180,10 +184,10 @@ pub record Left (p : Proc) (g : Stage) (r : Switched) : Type 0 where
   pub gdtr : r.after.gdtr ≡ p.gdtr
   pub told : (x : Fail) → r.fail ≡ Some x → x.context ≡ contexts.Old → EndsIn p g.phase  -- a fault of the old task is told in its state
 
--- what a switch needs where it begins: IRET NT, and a start no task
+-- IRET makes a switch with NT set alone.
+-- Source: Intel 80386 PRM 17.2.2.11, IRET
 abbrev pub Allowed : Proc → SwitchKind → Type 0
 Allowed p switches.Iret = is_nested p ≡ true
-Allowed p switches.Start = p.tr.usable ≡ false
 Allowed p _ = Unit {0}
 
 -- cycles lead from one stage to another
