@@ -206,7 +206,6 @@ by_type_tried : (p : Proc) (far : FarKind) (w : Width) (offset : ℕ) (c : Candi
 unfolding by_type_phrase
 by_type_tried p far w offset c ts f r = to_destination_tried (destination_of c.desc) p far w offset c ts f r
 
-
 table_role_reads : (s : ℕ) → is_read_role (table_role s) ≡ true
 table_role_reads s = go (names_ldt s)
   where
