@@ -294,19 +294,19 @@ def tss(base, access=0x89):
     return bytes([0x67, 0, *base.to_bytes(3, "little"), access, 0, base >> 24])
 
 
-def three_tasks(first, second=HALT, cpus=1, third=None, stack=0x10):
+def three_tasks(first, second=HALT, cpus=1, third=None, stack=0x10, trap=0):
     """An image of the tasks 18h, 20h and 28h, whose code stands at 4000h, 4100h and 4180h. Processor 0 starts in the first, and one more in the second, whose
-    SS is `stack`. The descriptor of the third may be another. IRET at 4200h is the handler of vector 20h. Vector 8 leads to the second task, and the
+    SS is `stack` and whose T bit is `trap`. The descriptor of the third may be another. IRET at 4200h is the handler of vector 20h. Vector 8 leads to the second task, and the
     gate of vector 13 isn't present."""
     wide = lambda access: bytes.fromhex("ffff000000") + bytes([access]) + bytes.fromhex("cf00")
     table = bytes(8) + wide(0x9A) + wide(0x92) + tss(0x3000) + tss(0x3080) + (third or tss(0x3100)) + wide(0xF2) + wide(0xFA)
 
-    def state(eip, esp, ss=0x10):
-        fields = {0x20: eip, 0x24: 2, 0x38: esp, 0x4C: 8, 0x50: ss, 0x54: 0x10}
+    def state(eip, esp, ss=0x10, trap=0):
+        fields = {0x20: eip, 0x24: 2, 0x38: esp, 0x4C: 8, 0x50: ss, 0x54: 0x10, 0x64: trap}
         return b"".join(fields.get(at, 0).to_bytes(4, "little") for at in range(0, 104, 4))
 
     data = bytearray(image(table, cpus=cpus, memory=65536, gdt=(0x1000, 0x3F), idt=(0x2000, 0x107), tasks=(1 << cpus) - 1, more=[
-        (0x2040, bytes.fromhex("0000200000850000")), (0x2068, bytes.fromhex("00420800000e0000")), (0x2100, bytes.fromhex("00420800008e0000")), (0x3000, state(0x4000, 0x5000)), (0x3080, state(0x4100, 0x6000, stack)), (0x3100, state(0x4180, 0x7000)),
+        (0x2040, bytes.fromhex("0000200000850000")), (0x2068, bytes.fromhex("00420800000e0000")), (0x2100, bytes.fromhex("00420800008e0000")), (0x3000, state(0x4000, 0x5000)), (0x3080, state(0x4100, 0x6000, stack, trap)), (0x3100, state(0x4180, 0x7000)),
         (0x4000, first), (0x4100, second), (0x4180, HALT), (0x4200, bytes([0xCF])),
     ]))
     for cpu in range(cpus):
@@ -354,6 +354,10 @@ def switches(checks):
     checks.want(seen == ["w . save 08 00003020 f 00004000", "w . link 00 00003080 3 00000018", "w . push 00 00005ffc f 00000000"] and lines[-1] == "clean", f"a double fault through a task gate: {seen}")
     at = [p[0][name] for name in ("eip", "esp", "tr", "pending")]
     checks.want(at == ["00004100", "00005ffc", "0020", "none"], f"a double fault through a task gate ends in the second task: {at}")
+    for trap, pending in ((1, "01"), (0xFFFE, "none")):
+        lines, made, p = of(2, three_tasks(jump(0x20), trap=trap))
+        at = [p[0][name] for name in ("eip", "tr", "pending")]
+        checks.want(at == ["00004100", "0020", pending] and p[0].get(pending, "-") == "-" and lines[-1] == "clean", f"the field of the T bit is {trap}: {at}")
     # Two processors want the third task, in any order: one claims it, and the other finds it busy.
     for order, seed in [("round", None), *(("seed", seed) for seed in range(1, 9))]:
         lines, made, p = of(2, three_tasks(jump(0x28), second=jump(0x28), cpus=2), order, seed)
