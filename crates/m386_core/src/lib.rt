@@ -3,6 +3,7 @@
 
 mod ahead;
 pub mod counted;
+pub mod exclusion;
 pub mod laws;
 pub mod machine;
 pub mod order;
