@@ -11,6 +11,7 @@ use Rattle.m386_core.specs.Order.{InOrder}
 use Rattle.m386_core.specs.Place.{HasFinished}
 use Rattle.m386_core.specs.Running.{IsOver}
 use Rattle.m386_core.specs.declared.order.Order.{Order}
+use Rattle.m386_exclusion_runs.proofs.Runs.{run_excludes}
 use Rattle.m386_image.proofs.Valid.{valid_cpus}
 use Rattle.m386_image.specs.Format.{IsValid}
 use Rattle.m386_image.specs.declared.image.Image.{Image as ImageData}
@@ -31,13 +32,14 @@ use Rattle.m386.specs.declared.status.Status.{Status}
 use Rattle.m386.specs.declared.status.Status.TheVariants.{Done, Memory, Usage, ReadFault, WriteFault, Image, TooLong}
 
 -- the report of a run whose verdict is known
-pub text_of_run : (image : ImageData) (asked : Asked) (first : Contents) (history : List Cycle) (ends : List (ProcEnd Proc)) (verdict : Verdict) → refusal image asked ≡ None → IsRunOf image asked history ends → BeginsWith image first → IsFirstFailure image history verdict → IsRunText image asked (report_text image first history ends verdict)
-text_of_run image asked first history ends verdict allowed run begins failure = record {
+pub text_of_run : (image : ImageData) (asked : Asked) (first : Contents) (history : List Cycle) (ends : List (ProcEnd Proc)) (verdict : Verdict) → IsValid image → refusal image asked ≡ None → IsRunOf image asked history ends → BeginsWith image first → IsFirstFailure image history verdict → IsRunText image asked (report_text image first history ends verdict)
+text_of_run image asked first history ends verdict valid allowed run begins failure = record {
   allowed = allowed;
   history = history;
   ends = ends;
   run = run;
   switches = run_switches_end image (count_of image asked.cpus) asked.steps history ends run.run;
+  exclusion = run_excludes image (count_of image asked.cpus) asked.steps history ends valid run.run;
   verdict = verdict;
   first_failure = failure;
   text_is = ap (λ (f : Contents). report_text image f history ends verdict) (one_beginning image first run.run.first begins run.run.begins);

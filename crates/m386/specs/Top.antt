@@ -7,6 +7,7 @@ use Rattle.m386_book.specs.declared.verdict.Verdict.{Verdict}
 use Rattle.m386_core.specs.Order.{InOrder}
 use Rattle.m386_core.specs.Switches.{SwitchesEnd}
 use Rattle.m386_edge.specs.Edge.{Gave, IsEmptied, Grows, GrowsByFront}
+use Rattle.m386_exclusion_runs.specs.Runs.{ExcludesWhileClean}
 use Rattle.m386_image.specs.Fault.{FirstFault}
 use Rattle.m386_image.specs.Format.{ImageOf}
 use Rattle.m386_image.specs.declared.image.Image.{Image as ImageRecord}
@@ -80,13 +81,15 @@ pub record IsRunOf (image : ImageRecord) (asked : Asked) (history : List Cycle) 
   pub in_order : IsScheduled image (count_of image asked.cpus) asked.steps asked.schedule history
 
 -- The text is the report of the run of an image: the history, the ends and the tasks that it prints are those of the run, in which each attempt at
--- a task switch ends whole or at the first row of the check table that fails, and the verdict is its first failure.
+-- a task switch ends whole or at the first row of the check table that fails, and no two processors hold one task as long as it is
+-- clean, and the verdict is its first failure.
 pub record IsRunText (image : ImageRecord) (asked : Asked) (text : List ℕ) : Type 0 where
   pub allowed : refusal image asked ≡ None
   pub history : List Cycle
   pub ends : List (ProcEnd Proc)
   pub run : IsRunOf image asked history ends
   pub switches : SwitchesEnd image (count_of image asked.cpus) history
+  pub exclusion : ExcludesWhileClean image run.run.first (count_of image asked.cpus) history
   pub verdict : Verdict
   pub first_failure : IsFirstFailure image history verdict
   pub text_is : text ≡ report_text image run.run.first history ends verdict

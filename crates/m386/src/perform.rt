@@ -68,6 +68,7 @@ fn verdict_on(alloc: Global, image: &Image, ended: &Ended<Proc>) -> Result<Verdi
 
 /// Writes the report on a run, whose verdict this is. It answers whatever asks for that run.
 fn write_run<K: Sink>(image: &Image, ended: &Ended<Proc>, verdict: &Verdict, out: &mut K) -> Status
+    requires valid { IsValid image.now }
     requires cpus { All (λ c. c.cpu < 8) ended.now.log.cycles }
     requires few { length ended.now.procs ≤ 8 }
     requires begins { BeginsWith image.now ended.now.log.first }
@@ -83,6 +84,7 @@ fn write_run<K: Sink>(image: &Image, ended: &Ended<Proc>, verdict: &Verdict, out
 
 /// Writes the report on the run of an image.
 fn report_on<K: Sink>(alloc: Global, image: &Image, ended: &Ended<Proc>, out: &mut K) -> Status
+    requires valid { IsValid image.now }
     requires cpus { All (λ c. c.cpu < 8) ended.now.log.cycles }
     requires few { length ended.now.procs ≤ 8 }
     requires begins { BeginsWith image.now ended.now.log.first }
