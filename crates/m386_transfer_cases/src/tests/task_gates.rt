@@ -12,6 +12,7 @@ use m386_memory::fixed::FixedBus;
 use m386_state::proc::{Proc, unusable};
 use m386_state::segment::Seg;
 use m386_worked::cases::put;
+use m386_worked::texts::all_made;
 use std::process::Abort;
 
 /// JMP and CALL to 4B:12345678, whose offset doesn't count; how many cycles a switch makes of each between the descriptor of the gate and
