@@ -4,3 +4,4 @@ pub mod Images
 pub mod Numbers
 pub mod Options
 pub mod Runs
+pub mod Sent

@@ -14,7 +14,6 @@ pub mod OneRun
 pub mod Orders
 pub mod Places
 pub mod Runs
-pub mod Sent
 pub mod Turning
 pub mod UnfinishedSteps
 pub mod Values

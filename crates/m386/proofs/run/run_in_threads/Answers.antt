@@ -1,5 +1,5 @@
 use denote.Param.Send.{sendable}
-use Rattle.m386_core.proofs.Sent.{counted_send}
+use Rattle.m386.proofs.Sent.{counted_send}
 use Rattle.m386.proofs.Runs.{machine_begins, machine_run}
 use Rattle.m386.proofs.run.run_in_threads.Goals as goal
 
