@@ -1,3 +1,4 @@
+pub mod Begun
 pub mod Feeds
 pub mod Insides
 pub mod Numerals

@@ -1,5 +1,5 @@
 -- The word of each operation.
-use Rattle.std.specs.Prelude.{ℕ, Bool, true, false, ◌||◌, List, Option, Some, None, codes}
+use Rattle.std.specs.Prelude.{ℕ, ◌==◌, Bool, true, false, ◌&&◌, ◌||◌, List, [], ◌∷◌, Option, Some, None, codes}
 use Rattle.std.specs.List.{list_any}
 use Rattle.m386_base.specs.declared.number.Width.{Width}
 use Rattle.m386_base.specs.declared.number.Width.TheVariants.{W8, W16, W32}
@@ -192,6 +192,22 @@ is_word (Some v) w = same_word v w
 -- whether a word is the one of a row, with 66h or without
 abbrev pub has_word : List ℕ → Row → Bool
 has_word w r = is_word (word_of r.name (width_of r.size false)) w || is_word (word_of r.name (width_of r.size true)) w
+
+-- whether a word begins with a letter, if there is one
+abbrev pub begins_with : Option (List ℕ) → ℕ → Bool
+begins_with None l = true
+begins_with (Some []) l = false
+begins_with (Some (b ∷ bs)) l = b == l
+
+-- whether the word of a row begins with a letter, with 66h or without
+abbrev pub is_letter_of : Row → ℕ → Bool
+is_letter_of r l = begins_with (word_of r.name (width_of r.size false)) l && begins_with (word_of r.name (width_of r.size true)) l
+
+-- whether each letter is that of its row
+unfoldable pub are_letters_of : List Row → List ℕ → Bool
+are_letters_of [] [] = true
+are_letters_of (r ∷ rs) (l ∷ ls) = is_letter_of r l && are_letters_of rs ls
+are_letters_of _ _ = false
 
 -- Whether a word is a mnemonic: the word of a row of the opcode table.
 unfoldable pub is_mnemonic : List ℕ → Bool

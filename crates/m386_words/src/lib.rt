@@ -2,6 +2,7 @@
 #![tactic(auto)]
 
 pub mod expression;
+pub mod letters;
 pub mod mnemonic;
 pub mod name;
 pub mod number;

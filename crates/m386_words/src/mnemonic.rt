@@ -1,10 +1,11 @@
 //! The words of operations.
-ghost use Rattle.std.specs.Prelude.{◌≡◌, Some};
+ghost use Rattle.std.specs.Prelude.{◌≡◌, Some, true};
 ghost use Rattle.std.specs.List.{list_any};
 ghost use Rattle.m386_opmap.specs.Operands.{width_of};
-ghost use Rattle.m386_words.specs.Mnemonics.{by_width, computing_word, moving_word, transfer_word, condition_word, processor_word, string_word, word_of, is_word, has_word, is_mnemonic};
+ghost use Rattle.m386_words.specs.Mnemonics.{by_width, computing_word, moving_word, transfer_word, condition_word, processor_word, string_word, word_of, are_letters_of, is_word, has_word, is_mnemonic};
 ghost use Rattle.m386_words.specs.Seen.{word_seen};
 
+use crate::letters::{FIRST_LETTERS, letters_are_of_the_rows};
 use m386_base::number::Width;
 use m386_opmap::name::Name;
 use m386_opmap::row::{Row, Size};
@@ -270,11 +271,21 @@ pub fn has_word(word: &[u8], row: &Row) -> bool
         || is_word(row.name, width_of(row.size, true), word)
 }
 
-/// Whether a word is the one of some row among these.
-fn is_among(word: &[u8], rows: &[Row]) -> bool
+/// Whether a word is the one of some row among these, whose words begin with these letters.
+#[tactic(auto, using(crate::proofs::Begun::among))]
+fn is_among(word: &[u8], rows: &[Row], letters: &[u8]) -> bool
+    requires { are_letters_of rows.now letters.now ≡ true }
     ensures { result ≡ list_any (has_word word.now) rows.now }
 {
-    rows.iter().any(|row| has_word(word, row))
+    let [first, ..] = word else {
+        return false;
+    };
+    for (index, letter) in letters.iter().enumerate() {
+        if letter == first && has_word(word, &rows[index]) {
+            return true;
+        }
+    }
+    false
 }
 
 /// Whether a word is a mnemonic: the word of a row of the opcode table.
@@ -282,5 +293,6 @@ fn is_among(word: &[u8], rows: &[Row]) -> bool
 pub fn is_mnemonic(word: &[u8]) -> bool
     ensures { result ≡ is_mnemonic word.now }
 {
-    is_among(word, &OPCODE_ROWS)
+    letters_are_of_the_rows();
+    is_among(word, &OPCODE_ROWS, FIRST_LETTERS)
 }
