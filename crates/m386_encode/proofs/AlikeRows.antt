@@ -85,6 +85,12 @@ one_place r c = not-true (is_place r.first && is_place r.second) (All-contains (
 abbrev pub IsAmong : Row → Operand → Type 0
 IsAmong t q = (q ≡ t.first) ⊎ ((q ≡ t.second) ⊎ (q ≡ t.third))
 
+-- each operand of a row agrees with those of a row like it
+pub like_among : (r t : Row) (p : Operand) → Like r t → IsAmong r p → agrees_with t p ≡ true
+like_among r t p like among =
+    let P : Operand → Type 0 = λ q. agrees_with t q ≡ true in
+    elim among [ inl e ↦ subst P (sym e) like.first | inr d ↦ elim d [ inl e ↦ subst P (sym e) like.second | inr e ↦ subst P (sym e) like.third ] ]
+
 agreed : (p q : Operand) (t : Row) → agrees_with t p ≡ true → IsAmong t q → agrees p q ≡ true
 agreed p q t h among =
     let a = and_parts (agrees p t.first) (agrees p t.second && agrees p t.third) h in

@@ -493,35 +493,41 @@ fixed_stays f g k w tail new other Fs x same h e q = cc
 fixed_stays f g k w tail new other Gs x same h e q = cc
 fixed_stays f g k w tail new other Cr0 x same h e q = cc
 
--- What is known of an operand of a row in one operation, f, and of what stands in its place in another, which a row t spells by the fields k.
-pub record Known (t : Row) (f k : Fields) (w : Width) (tail other : List ℕ) (name : Name) (p : Operand) (x : Option Arg) : Type 0 where
-  pub alike : option_map blank (operand_value f w tail p) ≡ option_map blank x
-  pub agree : agrees_with t p ≡ true
-  pub full : is_brief name p ≡ false
-  pub drawn : (v : Arg) → x ≡ Some v → Drawn t k w other v
+-- A value that an operand has by some fields and bytes behind opcode and ModRM.
+pub record Draws (w : Width) (p : Operand) (x : Option Arg) : Type 0 where
+  pub fields : Fields
+  pub tail : List ℕ
+  pub are : Bytes tail
+  pub size : is_tail p ≡ true → length tail ≡ operand_length w p
+  pub value : operand_value fields w tail p ≡ x
 
-module _ (t : Row) (f g k : Fields) (w : Width) (tail other : List ℕ) (name : Name) (p : Operand) (x : Option Arg) (known : Known t f k w tail other name p x) (placed : IsPlace k.place) (same : f.prefixes ≡ g.prefixes) where
-  -- it is drawn by the same operand, where that is alone of its kind
-  alone : 0 < kind_of p → sort_of (operand_value f w tail p) ≡ kind_of p → IsAmong t p × (operand_value k w other p ≡ x)
-  alone more is =
+-- What is known of an operand of a row in one operation, and of what stands in its place in another, whose operands each hold something.
+pub record Known (Holds : Arg → Type 0) (f : Fields) (w : Width) (tail : List ℕ) (name : Name) (p : Operand) (x : Option Arg) : Type 0 where
+  pub alike : option_map blank (operand_value f w tail p) ≡ option_map blank x
+  pub full : is_brief name p ≡ false
+  pub holds : (v : Arg) → x ≡ Some v → Holds v
+
+module _ (Holds : Arg → Type 0) (f g : Fields) (w : Width) (tail : List ℕ) (name : Name) (p : Operand) (x : Option Arg) (known : Known Holds f w tail name p x) (same : f.prefixes ≡ g.prefixes)
+    (draws : 0 < kind_of p → (v : Arg) → Holds v → sort v ≡ kind_of p → Draws w p (Some v)) where
+  -- a number of a kind is drawn by the operand of that kind
+  drawn : 0 < kind_of p → sort_of (operand_value f w tail p) ≡ kind_of p → Draws w p x
+  drawn more is =
       let s : sort_of x ≡ kind_of p = same_sort (operand_value f w tail p) x known.alike ∙ is in
       let v = some_value x (omega (arith, s, more)) in
-      let d = known.drawn v.0 v.1 in
-      let q : p ≡ d.operand = drawn_by p t k w other v.0 d placed known.agree more (sym (ap sort_of v.1) ∙ s) in
-      let M : Operand → Type 0 = λ y. IsAmong t y in
-      let V : Operand → Type 0 = λ y. operand_value k w other y ≡ x in
-      (subst M (sym q) d.among, subst V (sym q) (d.value ∙ sym v.1))
+      let P : Option Arg → Type 0 = λ y. Draws w p y in
+      subst P (sym v.1) (draws more v.0 (known.holds v.0 v.1) (sym (ap sort_of v.1) ∙ s))
 
-  pub own_alone : is_own p ≡ true → IsAmong t p × (operand_value g w other p ≡ x)
-  own_alone h =
+  pub own_again : is_tail p ≡ true → is_own p ≡ true → TailFor g w p x
+  own_again t h =
       let n = own_kind f w tail p h in
-      let a = alone n.0 n.1 in
-      (a.0, own_stays g k w other p h ∙ a.1)
+      let d = drawn n.0 n.1 in
+      record { bytes = d.tail; are = d.are; size = d.size t; value = own_stays g d.fields w d.tail p h ∙ d.value }
 
   pub fixed_again : (new : List ℕ) → is_fixed p ≡ true → operand_value g w new p ≡ x
   fixed_again new h =
       let n = fixed_kind f w tail p h in
-      fixed_stays f g k w tail new other p x (ap (λ (y : Prefixes). y.seg) same) h known.alike (alone n.0 n.1).1
+      let d = drawn n.0 n.1 in
+      fixed_stays f g d.fields w tail new d.tail p x (ap (λ (y : Prefixes). y.seg) same) h known.alike d.value
 
 -- what an operand of one operation is in the other
 pub value_again : (f g : Fields) (w : Width) (tail new : List ℕ) (name : Name) (p : Operand) (x : Option Arg) → f.middle ≡ g.middle → f.opcode ≡ g.opcode → is_brief name p ≡ false →

@@ -34,7 +34,7 @@ sound_wide op row narrow best result listed full wide sound (inl e) = let W : Op
 sound_wide op row narrow best result listed full wide sound (inr is) = candidate_sound op row narrow result listed full sound is
 
 -- a whole displacement has four bytes
-four_bytes : {seg : Option ℕ} {modrm : List ℕ} {mid : ℕ} {place : Option Arg} → (form : Form seg modrm mid place) → HasWholeDisplacement form → is_memory place ≡ true → displacement_size modrm ≡ 4
+pub four_bytes : {seg : Option ℕ} {modrm : List ℕ} {mid : ℕ} {place : Option Arg} → (form : Form seg modrm mid place) → HasWholeDisplacement form → is_memory place ≡ true → displacement_size modrm ≡ 4
 four_bytes absent h m = cc
 four_bytes (register n t) h m = cc
 four_bytes (based n ds t k l) h m = size_based n ds t k ∙ h

@@ -1,6 +1,6 @@
 -- The shortest wide spellings of operations that differ in their numbers alone are equally long.
-use Rattle.std.proofs.Common.{◌≡◌, ℕ, ◌+◌, ◌≤◌, inl, inr, Bool, true, false, cond, List, [], ◌++◌, length, length-append, map, refl, sym, ◌∙◌, ap, arith, subst, ◌&&◌, ◌||◌, not, nat_lt}
-use Rattle.std.specs.Prelude.{Option, Some, None, option_map, option_to_list, ◌==◌}
+use Rattle.std.proofs.Common.{◌≡◌, ℕ, ◌+◌, ◌-◌, ◌<◌, ◌≤◌, inl, inr, Bool, true, false, cond, List, [], ◌∷◌, ◌++◌, length, length-append, map, refl, sym, ◌∙◌, ap, arith, subst, ◌&&◌, ◌||◌, not, nat_lt}
+use Rattle.std.specs.Prelude.{Option, Some, None, option_map, option_to_list, slice_index, ◌==◌}
 use Rattle.std.specs.List.{All}
 use Rattle.std.proofs.lemmas.Bool.{and_parts, cases_Bool, not-true, ltb-false}
 use Rattle.std.proofs.lemmas.List.Elements.{All-nil, All-cons, All-append, All-head, All-tail}
@@ -9,27 +9,26 @@ use Rattle.m386_opmap.specs.declared.fields.Fields.{Fields}
 use Rattle.m386_opmap.specs.declared.fields.Prefixes.{Prefixes}
 use Rattle.m386_opmap.specs.declared.op.Arg.{Arg}
 use Rattle.m386_opmap.specs.declared.op.Op.{Op}
-use Rattle.m386_opmap.specs.declared.op.Rep.{Rep}
-use Rattle.m386_opmap.specs.declared.op.Rep.TheVariants.{Once}
 use Rattle.m386_opmap.specs.declared.name.Name.{Name}
 use Rattle.m386_opmap.specs.declared.row.Operand.{Operand}
 use Rattle.m386_opmap.specs.declared.row.Operand.TheVariants.{Absent, E, M, R, G, S, Low, I, Ib, Iw, SignedByte, Jb, J, O, A, X, Table, Eax, Cl, Dx, One, Es, Cs, Ss, Ds, Fs, Gs, Cr0}
 use Rattle.m386_opmap.specs.declared.row.Row.{Row}
-use Rattle.m386_opmap.specs.Operands.{operand_value, operand_length, suits, is_memory, is_string, tail_length, operation, width_of}
-use Rattle.m386_opmap.specs.Prefix.{prefixes_of}
+use Rattle.m386_opmap.specs.Operands.{operand_value, operand_length, suits, is_memory, tail_length, operation, width_of}
+use Rattle.m386_opmap.specs.Prefix.{is_prefix, prefixes_of}
 use Rattle.m386_opmap.specs.Spelling.{Spells, opcode_bytes}
 use Rattle.m386_opmap.proofs.Outcomes.{fields_at}
 use Rattle.m386_encode.specs.Candidates.{is_place, is_middle, is_low}
 use Rattle.m386_encode.specs.Order.{is_before, is_less}
 use Rattle.m386_encode.specs.Renumbered.{blank, IsRenumbered, KeepsLength}
-use Rattle.m386_encode.specs.Wide.{is_brief, is_full, HasWholeDisplacement, IsShortestWide}
-use Rattle.m386_encode.proofs.AlikeRows.{IsAmong, Like, like_rows, one_place}
-use Rattle.m386_encode.proofs.AlikeTails.{Again, Drawn, IsPlace, IsSmall, Known, Split, TailFor, drawn_small, form_again, grouped, is_own, named_place, own_alone, fixed_again, offset_for, same_memory, same_presence, split_alike, value_again}
+use Rattle.m386_encode.specs.Wide.{is_brief, is_full, HasWholeDisplacement, IsShortestWide, IsWide}
+use Rattle.m386_encode.proofs.AlikeRows.{IsAmong, Like, kind_of, like_among, like_rows, one_place}
+use Rattle.m386_encode.proofs.AlikeTails.{Again, Drawn, Draws, IsPlace, IsSmall, Known, Split, TailFor, drawn_by, drawn_small, form_again, grouped, is_own, named_place, own_again, fixed_again, offset_for, same_memory, same_presence, sort, split_alike, value_again}
 use Rattle.m386_encode.proofs.InFull.{Whole}
 use Rattle.m386_encode.proofs.RowParts.{is_tail, has_one_tail, has_shape, place_said}
 use Rattle.m386_encode.proofs.Tails.{items}
 use Rattle.m386_encode.proofs.Values.{Bytes, is_plain}
-use Rattle.m386_encode.proofs.Widened.{WideAs, wide_by, before, tail_are, modrm_are}
+use Rattle.m386_encode.proofs.Read.{same_fields}
+use Rattle.m386_encode.proofs.Widened.{wide_by, before, tail_are, modrm_are}
 
 -- ---- the bytes behind opcode and ModRM
 
@@ -184,60 +183,60 @@ picked_small true q x y place a b c = a
 picked_small false true x y place a b c = b
 picked_small false false x y place a b c = c
 
-made : (n m : Name) (v w : Width) (xs ys : List Arg) (k l : Bool) (p q : Rep) → n ≡ m → v ≡ w → xs ≡ ys → k ≡ l → p ≡ q →
-    ◌≡◌ {A = Op} (record { name = n; width = v; args = record { items = xs }; lock = k; rep = p }) (record { name = m; width = w; args = record { items = ys }; lock = l; rep = q })
-made n m v w xs ys k l p q a b c d e = rw (a, b, c, d, e) refl
-
 same_length : (ps os ms ts ns us : List ℕ) → length ms ≡ length ns → length ts ≡ length us → length (ps ++ (os ++ (ms ++ ts))) ≡ length (ps ++ (os ++ (ns ++ us)))
 same_length ps os ms ts ns us m t =
     omega (arith, m, t, length-append ps (os ++ (ms ++ ts)), length-append os (ms ++ ts), length-append ms ts, length-append ps (os ++ (ns ++ us)), length-append os (ns ++ us), length-append ns us)
 
 -- ---- the other operation by the same opcode
 
-full_parts : (n : Name) (a b c : Operand) → not (is_brief n a) && not (is_brief n b) && not (is_brief n c) ≡ true → (is_brief n a ≡ false) × ((is_brief n b ≡ false) × (is_brief n c ≡ false))
+pub full_parts : (n : Name) (a b c : Operand) → not (is_brief n a) && not (is_brief n b) && not (is_brief n c) ≡ true → (is_brief n a ≡ false) × ((is_brief n b ≡ false) × (is_brief n c ≡ false))
 full_parts n a b c h =
     let x = and_parts (not (is_brief n a) && not (is_brief n b)) (not (is_brief n c)) h in
     let y = and_parts (not (is_brief n a)) (not (is_brief n b)) x.0 in
     (not-true (is_brief n a) y.0, (not-true (is_brief n b) y.1, not-true (is_brief n c) x.1))
 
-module _ (op other : Op) (bytes some : List ℕ) (h : IsRenumbered op other) (s : Spells op bytes) (full : is_full s.row ≡ true) (whole : HasWholeDisplacement s.form) (u : Spells other some) (full_other : is_full u.row ≡ true)
-    (whole_other : HasWholeDisplacement u.form) where
+-- A wide spelling of one operation that is as long as some bytes of another, and begins with a prefix where they do.
+pub record WideLike (op : Op) (bytes : List ℕ) : Type 0 where
+  pub more : List ℕ
+  pub wide : IsWide op more
+  pub size : length more ≡ length bytes
+  pub begin : is_prefix (slice_index more 0) ≡ is_prefix (slice_index bytes 0)
+
+begin_by : (short : Bool) (o : ℕ) (rest : List ℕ) → slice_index (cond short (o ∷ []) (0x0f ∷ (o - 0xf00) ∷ []) ++ rest) 0 ≡ cond short o 0x0f
+begin_by true o rest = refl
+begin_by false o rest = refl
+
+same_begin : (ps : List ℕ) (o : ℕ) (xs ys : List ℕ) → slice_index (ps ++ (opcode_bytes o ++ xs)) 0 ≡ slice_index (ps ++ (opcode_bytes o ++ ys)) 0
+same_begin [] o xs ys = begin_by (nat_lt o 256) o xs ∙ sym (begin_by (nat_lt o 256) o ys)
+same_begin (p ∷ ps) o xs ys = refl
+
+-- A wide spelling of one operation, and another that is the same but for its numbers, each of which holds something. What holds so is small,
+-- and is drawn by each operand of its kind.
+module _ (op other : Op) (bytes : List ℕ) (h : IsRenumbered op other) (s : Spells op bytes) (full : is_full s.row ≡ true) (whole : HasWholeDisplacement s.form) (Holds : Arg → Type 0) (all : All Holds other.args.items)
+    (is_small : (v : Arg) → Holds v → IsSmall (Some v)) (draws : (p : Operand) → IsAmong s.row p → 0 < kind_of p → (v : Arg) → Holds v → sort v ≡ kind_of p → Draws op.width p (Some v)) where
   abbrev said : Prefixes
   said = prefixes_of s.prefixes
 
   abbrev w : Width
-  w = width_of s.row.size said.narrow
-
-  abbrev v : Width
-  v = width_of u.row.size (prefixes_of u.prefixes).narrow
+  w = op.width
 
   abbrev f : Fields
   f = fields_at s.prefixes s.opcode s.middle s.place
 
-  abbrev k : Fields
-  k = fields_at u.prefixes u.opcode u.middle u.place
-
   abbrev a : Operand → Option Arg
   a p = operand_value f w s.tail p
 
-  abbrev others : Width → List Arg
-  others m = items (operand_value k m u.tail u.row.first) (operand_value k m u.tail u.row.second) (operand_value k m u.tail u.row.third)
-
-  name_is : s.row.name ≡ u.row.name
+  width_is : w ≡ width_of s.row.size said.narrow
   unfolding operation
-  name_is = sym (ap (λ (x : Op). x.name) s.spelled) ∙ (h.name ∙ ap (λ (x : Op). x.name) u.spelled)
+  width_is = ap (λ (x : Op). x.width) s.spelled
 
-  width_is : v ≡ w
-  unfolding operation
-  width_is = sym (ap (λ (x : Op). x.width) u.spelled) ∙ (sym h.width ∙ ap (λ (x : Op). x.width) s.spelled)
-
-  blank_is : map blank (items (a s.row.first) (a s.row.second) (a s.row.third)) ≡ map blank (others w)
+  blank_is : map blank (items (a s.row.first) (a s.row.second) (a s.row.third)) ≡ map blank other.args.items
   unfolding operation
   blank_is =
-      sym (ap (λ (x : Op). map blank x.args.items) s.spelled) ∙ (h.args ∙ (ap (λ (x : Op). map blank x.args.items) u.spelled ∙ ap (λ m. map blank (others m)) width_is))
+      ap (λ m. map blank (items (operand_value f m s.tail s.row.first) (operand_value f m s.tail s.row.second) (operand_value f m s.tail s.row.third))) width_is ∙ (sym (ap (λ (x : Op). map blank x.args.items) s.spelled) ∙ h.args)
 
-  split : Split (a s.row.first) (a s.row.second) (a s.row.third) (others w)
-  split = split_alike (a s.row.first) (a s.row.second) (a s.row.third) (others w) blank_is
+  split : Split (a s.row.first) (a s.row.second) (a s.row.third) other.args.items
+  split = split_alike (a s.row.first) (a s.row.second) (a s.row.third) other.args.items blank_is
 
   abbrev x : Option Arg
   x = split.first
@@ -248,38 +247,29 @@ module _ (op other : Op) (bytes some : List ℕ) (h : IsRenumbered op other) (s 
   abbrev z : Option Arg
   z = split.third
 
-  like : Like s.row u.row
-  like = like_rows s.row u.row s.listed u.listed full full_other name_is
-
-  placed : IsPlace u.place
-  placed = named_place (prefixes_of u.prefixes).seg u.modrm u.middle u.place (modrm_are other some u) u.form whole_other
-
-  abbrev From : Arg → Type 0
-  From = Drawn u.row k w u.tail
-
-  drawn : All From (option_to_list x ++ (option_to_list y ++ option_to_list z))
-  drawn = let L : List Arg → Type 0 = All From in subst L (split.are ∙ grouped x y z) (all_drawn u.row k w u.tail)
+  held : All Holds (option_to_list x ++ (option_to_list y ++ option_to_list z))
+  held = let L : List Arg → Type 0 = All Holds in subst L (split.are ∙ grouped x y z) all
 
   fulls : (is_brief s.row.name s.row.first ≡ false) × ((is_brief s.row.name s.row.second ≡ false) × (is_brief s.row.name s.row.third ≡ false))
   fulls = full_parts s.row.name s.row.first s.row.second s.row.third full
 
   abbrev Is : Operand → Option Arg → Type 0
-  Is p o = Known u.row f k w s.tail u.tail s.row.name p o
+  Is p o = Known Holds f w s.tail s.row.name p o
 
   first_known : Is s.row.first x
-  first_known = record { alike = split.first_alike; agree = like.first; full = fulls.0; drawn = front_holds From x (option_to_list y ++ option_to_list z) drawn }
+  first_known = record { alike = split.first_alike; full = fulls.0; holds = front_holds Holds x (option_to_list y ++ option_to_list z) held }
 
-  rest : All From (option_to_list y ++ option_to_list z)
-  rest = rest_hold From x (option_to_list y ++ option_to_list z) drawn
+  rest : All Holds (option_to_list y ++ option_to_list z)
+  rest = rest_hold Holds x (option_to_list y ++ option_to_list z) held
 
   second_known : Is s.row.second y
-  second_known = record { alike = split.second_alike; agree = like.second; full = fulls.1.0; drawn = front_holds From y (option_to_list z) rest }
+  second_known = record { alike = split.second_alike; full = fulls.1.0; holds = front_holds Holds y (option_to_list z) rest }
 
   third_known : Is s.row.third z
-  third_known = record { alike = split.third_alike; agree = like.third; full = fulls.1.1; drawn = last_holds From z (rest_hold From y (option_to_list z) rest) }
+  third_known = record { alike = split.third_alike; full = fulls.1.1; holds = last_holds Holds z (rest_hold Holds y (option_to_list z) rest) }
 
   small : (p : Operand) (o : Option Arg) → Is p o → IsSmall o
-  small p o is = small_of o (λ q e. drawn_small u.row k w u.tail q (is.drawn q e) placed (tail_are other some u))
+  small p o is = small_of o (λ q e. is_small q (is.holds q e))
 
   -- what the ModRM byte names in the other
   abbrev new : Option Arg
@@ -303,24 +293,19 @@ module _ (op other : Op) (bytes some : List ℕ) (h : IsRenumbered op other) (s 
   one : has_one_tail s.row ≡ true
   one = (has_shape s.row s.listed).single
 
-  tail_size : length u.tail ≡ lengths w u.row
-  unfolding tail_length
-  tail_size = u.whole ∙ ap (λ m. lengths m u.row) width_is
-
-  needed : (p : Operand) (o : Option Arg) → Is p o → is_tail p ≡ true → TailFor g w p o
-  needed p o is t =
+  needed : (p : Operand) (o : Option Arg) → IsAmong s.row p → Is p o → is_tail p ≡ true → TailFor g w p o
+  needed p o among is t =
       elim (cases_Bool (is_own p)) [
-        | inl e ↦ (let n = own_alone u.row f g k w s.tail u.tail s.row.name p o is placed refl e in
-            record { bytes = u.tail; are = tail_are other some u; size = tail_size ∙ one_length u.row w p (has_shape u.row u.listed).single n.0 t; value = n.1 })
+        | inl e ↦ own_again Holds f g w s.tail s.row.name p o is refl (draws p among) t e
         | inr e ↦ offset_for f g w s.tail s.row.name p o refl t e is.full is.alike (small p o is)
       ]
 
   behind : TailOf s.row g w x y z
-  behind = tail_of s.row g w x y z one (needed s.row.first x first_known) (needed s.row.second y second_known) (needed s.row.third z third_known)
+  behind = tail_of s.row g w x y z one (needed s.row.first x (inl refl) first_known) (needed s.row.second y (inr (inl refl)) second_known) (needed s.row.third z (inr (inr refl)) third_known)
 
-  same_value : (p : Operand) (o : Option Arg) → Is p o → (is_place p ≡ true → new ≡ o) → (is_tail p ≡ true → operand_value g w behind.bytes p ≡ o) → operand_value g w behind.bytes p ≡ o
-  same_value p o is q t =
-      value_again f g w s.tail behind.bytes s.row.name p o refl refl is.full is.alike q t (fixed_again u.row f g k w s.tail u.tail s.row.name p o is placed refl behind.bytes)
+  same_value : (p : Operand) (o : Option Arg) → IsAmong s.row p → Is p o → (is_place p ≡ true → new ≡ o) → (is_tail p ≡ true → operand_value g w behind.bytes p ≡ o) → operand_value g w behind.bytes p ≡ o
+  same_value p o among is q t =
+      value_again f g w s.tail behind.bytes s.row.name p o refl refl is.full is.alike q t (fixed_again Holds f g w s.tail s.row.name p o is refl (draws p among) behind.bytes)
 
   third_free : is_place s.row.third ≡ false
   third_free =
@@ -332,32 +317,90 @@ module _ (op other : Op) (bytes some : List ℕ) (h : IsRenumbered op other) (s 
   third_named : is_place s.row.third ≡ true → new ≡ z
   third_named e = (let never : false ≡ true = sym third_free ∙ e in cc)
 
-  values : items (operand_value g w behind.bytes s.row.first) (operand_value g w behind.bytes s.row.second) (operand_value g w behind.bytes s.row.third) ≡ items x y z
+  values : items (operand_value g w behind.bytes s.row.first) (operand_value g w behind.bytes s.row.second) (operand_value g w behind.bytes s.row.third) ≡ other.args.items
   values =
-      rw (same_value s.row.first x first_known picks.1.0 behind.first, same_value s.row.second y second_known picks.1.1 behind.second, same_value s.row.third z third_known third_named behind.third) refl
+      rw (same_value s.row.first x (inl refl) first_known picks.1.0 behind.first, same_value s.row.second y (inr (inl refl)) second_known picks.1.1 behind.second, same_value s.row.third z (inr (inr refl)) third_known third_named behind.third)
+      (sym split.are)
 
   spelled_again : operation s.row g behind.bytes ≡ other
   unfolding operation
   spelled_again =
-      made s.row.name u.row.name w v (items (operand_value g w behind.bytes s.row.first) (operand_value g w behind.bytes s.row.second) (operand_value g w behind.bytes s.row.third)) (others v) said.lock (prefixes_of u.prefixes).lock
-      (cond (is_string s.row.name) said.rep Once) (cond (is_string u.row.name) (prefixes_of u.prefixes).rep Once) name_is (sym width_is) (values ∙ (sym split.are ∙ ap others (sym width_is)))
-      (sym (ap (λ (q : Op). q.lock) s.spelled) ∙ (h.lock ∙ ap (λ (q : Op). q.lock) u.spelled)) (sym (ap (λ (q : Op). q.rep) s.spelled) ∙ (h.rep ∙ ap (λ (q : Op). q.rep) u.spelled))
-      ∙ sym u.spelled
+      same_fields (operation s.row g behind.bytes) other (sym (ap (λ (q : Op). q.name) s.spelled) ∙ h.name) (sym width_is ∙ h.width) (sym (ap (λ (q : Op). q.lock) s.spelled) ∙ h.lock) (sym (ap (λ (q : Op). q.rep) s.spelled) ∙ h.rep)
+      (ap (λ m. items (operand_value g m behind.bytes s.row.first) (operand_value g m behind.bytes s.row.second) (operand_value g m behind.bytes s.row.third)) (sym width_is) ∙ values)
 
   suited : suits s.row said.lock (is_memory new) ≡ true
   suited = let P : Bool → Type 0 = λ m. suits s.row said.lock m ≡ true in subst P (sym (same_memory s.place new picks.0)) s.suited
 
-  -- A wide spelling of the one gives one of the other that is as long.
-  pub keeps_wide : WideAs other (length bytes)
+  tail_size : length behind.bytes ≡ tail_length s.row said.narrow
   unfolding tail_length
-  keeps_wide =
+  tail_size = behind.size ∙ ap (λ m. lengths m s.row) width_is
+
+  -- A wide spelling of the one gives one of the other that is as long.
+  pub numbers_again : WideLike other bytes
+  numbers_again =
       let form : Whole said.seg s.middle new = record { bytes = again.bytes; form = again.form; displaced = again.whole; are = again.are } in
-      let made_so = wide_by s.row s.prefixes s.opcode s.middle new behind.bytes s.listed full s.are_prefixes (before op bytes s) form (s.wanted ∙ sym (same_presence s.place new picks.0)) s.covered suited behind.size behind.are in
-      let tails : length behind.bytes ≡ length s.tail = behind.size ∙ sym s.whole in
+      let wide = wide_by s.row s.prefixes s.opcode s.middle new behind.bytes s.listed full s.are_prefixes (before op bytes s) form (s.wanted ∙ sym (same_presence s.place new picks.0)) s.covered suited tail_size behind.are in
       let size : length (s.prefixes ++ (opcode_bytes s.opcode ++ (again.bytes ++ behind.bytes))) ≡ length (s.prefixes ++ (opcode_bytes s.opcode ++ (s.modrm ++ s.tail))) =
-      same_length s.prefixes (opcode_bytes s.opcode) again.bytes behind.bytes s.modrm s.tail again.size tails in
-      let P : Op → Type 0 = λ q. WideAs q (length bytes) in
-      subst P spelled_again (record { bytes = made_so.bytes; wide = made_so.wide; size = made_so.size ∙ (size ∙ sym (ap length s.parts)) })
+      same_length s.prefixes (opcode_bytes s.opcode) again.bytes behind.bytes s.modrm s.tail again.size (tail_size ∙ sym s.whole) in
+      let P : Op → Type 0 = λ q. WideLike q bytes in
+      subst P spelled_again
+      (record {
+        more = s.prefixes ++ (opcode_bytes s.opcode ++ (again.bytes ++ behind.bytes));
+        wide = wide;
+        size = size ∙ sym (ap length s.parts);
+        begin = ap is_prefix (same_begin s.prefixes s.opcode (again.bytes ++ behind.bytes) (s.modrm ++ s.tail) ∙ sym (ap (λ q. slice_index q 0) s.parts));
+      })
+
+-- ---- an operation that is spelled too
+
+module _ (op other : Op) (bytes some : List ℕ) (h : IsRenumbered op other) (s : Spells op bytes) (full : is_full s.row ≡ true) (whole : HasWholeDisplacement s.form) (u : Spells other some) (full_other : is_full u.row ≡ true)
+    (whole_other : HasWholeDisplacement u.form) where
+  abbrev k : Fields
+  k = fields_at u.prefixes u.opcode u.middle u.place
+
+  abbrev v : Width
+  v = width_of u.row.size (prefixes_of u.prefixes).narrow
+
+  other_width : op.width ≡ v
+  unfolding operation
+  other_width = h.width ∙ ap (λ (x : Op). x.width) u.spelled
+
+  name_is : s.row.name ≡ u.row.name
+  unfolding operation
+  name_is = sym (ap (λ (x : Op). x.name) s.spelled) ∙ (h.name ∙ ap (λ (x : Op). x.name) u.spelled)
+
+  like : Like s.row u.row
+  like = like_rows s.row u.row s.listed u.listed full full_other name_is
+
+  placed : IsPlace u.place
+  placed = named_place (prefixes_of u.prefixes).seg u.modrm u.middle u.place (modrm_are other some u) u.form whole_other
+
+  abbrev From : Arg → Type 0
+  From = Drawn u.row k v u.tail
+
+  drawn : All From other.args.items
+  unfolding operation
+  drawn = let L : Op → Type 0 = λ q. All From q.args.items in subst L (sym u.spelled) (all_drawn u.row k v u.tail)
+
+  -- its numbers are drawn by the same operands
+  draws : (p : Operand) → IsAmong s.row p → 0 < kind_of p → (q : Arg) → From q → sort q ≡ kind_of p → Draws v p (Some q)
+  unfolding tail_length
+  draws p among more q d is =
+      let same : p ≡ d.operand = drawn_by p u.row k v u.tail q d placed (like_among s.row u.row p like among) more is in
+      let M : Operand → Type 0 = λ x. IsAmong u.row x in
+      let V : Operand → Type 0 = λ x. operand_value k v u.tail x ≡ Some q in
+      record {
+        fields = k;
+        tail = u.tail;
+        are = tail_are other some u;
+        size = λ t. u.whole ∙ one_length u.row v p (has_shape u.row u.listed).single (subst M (sym same) d.among) t;
+        value = subst V (sym same) d.value;
+      }
+
+  keeps_wide : WideLike other bytes
+  keeps_wide =
+      let W : Width → Type 0 = λ x. (p : Operand) → IsAmong s.row p → 0 < kind_of p → (q : Arg) → From q → sort q ≡ kind_of p → Draws x p (Some q) in
+      numbers_again op other bytes h s full whole From drawn (λ q d. drawn_small u.row k v u.tail q d placed (tail_are other some u)) (subst W (sym other_width) draws)
 
 -- ---- the law
 
@@ -372,7 +415,7 @@ not_shorter xs ys h = length_by (nat_lt (length xs) (length ys)) (length xs == l
 one_way : (op other : Op) (bytes more : List ℕ) → IsRenumbered op other → IsShortestWide op bytes → IsShortestWide other more → length more ≤ length bytes
 one_way op other bytes more h s t =
     let k = keeps_wide op other bytes more h s.wide.spells s.wide.full s.wide.displaced t.wide.spells t.wide.full t.wide.displaced in
-    let l : length more ≤ length k.bytes = not_shorter k.bytes more (t.first k.bytes k.wide) in
+    let l : length more ≤ length k.more = not_shorter k.more more (t.first k.more k.wide) in
     omega (arith, l, k.size)
 
 back : (op other : Op) → IsRenumbered op other → IsRenumbered other op

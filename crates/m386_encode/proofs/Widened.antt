@@ -102,14 +102,8 @@ pub record WideOf (op : Op) : Type 0 where
   pub bytes : List ℕ
   pub wide : IsWide op bytes
 
--- one of so many bytes
-pub record WideAs (op : Op) (n : ℕ) : Type 0 where
-  pub bytes : List ℕ
-  pub wide : IsWide op bytes
-  pub size : length bytes ≡ n
-
-of_any_size : (op : Op) (n : ℕ) → WideAs op n → WideOf op
-of_any_size op n w = record { bytes = w.bytes; wide = w.wide }
+wide_of : (op : Op) (bytes : List ℕ) → IsWide op bytes → WideOf op
+wide_of op bytes w = record { bytes = bytes; wide = w }
 
 are_from : (bs : List ℕ) → Bytes bs → AllAreBytes bs
 are_from bs f = All-from_get_or (λ b. b < 256) bs 0 f
@@ -127,36 +121,32 @@ opcode_are o (pair h k) =
 pub wide_by : (r : Row) (ps : List ℕ) (o mid : ℕ) (place : Option Arg) (tail : List ℕ) → Contains opcode_rows r → is_full r ≡ true → All (λ p. is_prefix p ≡ true) ps → AllAreBytes ps →
     (form : Whole (prefixes_of ps).seg mid place) → has_modrm r ≡ is_some place → Covers r (8 * o + mid) → suits r (prefixes_of ps).lock (is_memory place) ≡ true →
     length tail ≡ tail_length r (prefixes_of ps).narrow → Bytes tail →
-    WideAs (operation r (fields_at ps o mid place) tail) (length (ps ++ (opcode_bytes o ++ (form.bytes ++ tail))))
+    IsWide (operation r (fields_at ps o mid place) tail) (ps ++ (opcode_bytes o ++ (form.bytes ++ tail)))
 wide_by r ps o mid place tail listed full prefixes are form wanted covered suited whole behind =
     let is : IsOpcode o = opcode_of_row o r (lawful_row opcode_rows r opcodes_lawful listed) (begins_from false o mid r (form_middle form.form) covered refl) in
     let P : ℕ → Type 0 = λ b. b < 256 in
     record {
-      bytes = ps ++ (opcode_bytes o ++ (form.bytes ++ tail));
-      wide = record {
-        spells = record {
-          row = r;
-          listed = listed;
-          prefixes = ps;
-          opcode = o;
-          modrm = form.bytes;
-          tail = tail;
-          parts = refl;
-          are_bytes = All-append P ps _ are (All-append P (opcode_bytes o) _ (opcode_are o is) (All-append P form.bytes tail (are_from form.bytes form.are) (are_from tail behind)));
-          are_prefixes = prefixes;
-          middle = mid;
-          place = place;
-          form = form.form;
-          wanted = wanted;
-          covered = covered;
-          suited = suited;
-          whole = whole;
-          spelled = refl;
-        };
-        full = full;
-        displaced = form.displaced;
+      spells = record {
+        row = r;
+        listed = listed;
+        prefixes = ps;
+        opcode = o;
+        modrm = form.bytes;
+        tail = tail;
+        parts = refl;
+        are_bytes = All-append P ps _ are (All-append P (opcode_bytes o) _ (opcode_are o is) (All-append P form.bytes tail (are_from form.bytes form.are) (are_from tail behind)));
+        are_prefixes = prefixes;
+        middle = mid;
+        place = place;
+        form = form.form;
+        wanted = wanted;
+        covered = covered;
+        suited = suited;
+        whole = whole;
+        spelled = refl;
       };
-      size = refl;
+      full = full;
+      displaced = form.displaced;
     }
 
 module _ (op : Op) (bytes : List ℕ) (s : Spells op bytes) where
@@ -182,7 +172,7 @@ module _ (op : Op) (bytes : List ℕ) (s : Spells op bytes) where
   same_row : is_full s.row ≡ true → WideOf op
   same_row full =
       let P : Op → Type 0 = WideOf in
-      subst P (sym s.spelled) (of_any_size _ _ (wide_by s.row s.prefixes s.opcode s.middle s.place s.tail s.listed full s.are_prefixes before whole_place s.wanted s.covered s.suited s.whole tail_are))
+      subst P (sym s.spelled) (wide_of _ _ (wide_by s.row s.prefixes s.opcode s.middle s.place s.tail s.listed full s.are_prefixes before whole_place s.wanted s.covered s.suited s.whole tail_are))
 
   -- by the row that has in full what this one has in fewer bytes
   other_row : Widens s.row → WideOf op
@@ -198,7 +188,7 @@ module _ (op : Op) (bytes : List ℕ) (s : Spells op bytes) where
       let suited : suits (full_row s.row) (prefixes_of s.prefixes).lock (is_memory s.place) ≡ true =
       suited_by (prefixes_of s.prefixes).lock s.row.lock (is_memory s.place) (wants_memory s.row) (wants_memory (full_row s.row)) (wants_register s.row) (wants_register (full_row s.row)) x.memory x.register s.suited in
       let P : Op → Type 0 = WideOf in
-      subst P (full_operation s.row s.prefixes s.opcode o s.middle s.place s.tail t ∙ sym s.spelled) (of_any_size _ _ (wide_by (full_row s.row) s.prefixes o s.middle s.place t.bytes x.listed x.full s.are_prefixes before whole_place (sym x.modrm ∙ s.wanted) covered suited t.size t.are))
+      subst P (full_operation s.row s.prefixes s.opcode o s.middle s.place s.tail t ∙ sym s.spelled) (wide_of _ _ (wide_by (full_row s.row) s.prefixes o s.middle s.place t.bytes x.listed x.full s.are_prefixes before whole_place (sym x.modrm ∙ s.wanted) covered suited t.size t.are))
 
   pub widened : WideOf op
   widened = elim (cases_Bool (is_full s.row)) [ inl e ↦ same_row e | inr e ↦ other_row (widens s.row s.listed e) ]
