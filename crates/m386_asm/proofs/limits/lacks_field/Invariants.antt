@@ -1,0 +1,11 @@
+-- The names so far are known.
+use Rattle.std.proofs.Common.{◌≡◌, ℕ, false, map, take}
+use Rattle.std.specs.List.{list_any}
+use Rattle.m386_words.specs.Expressions.{Expression}
+use Rattle.m386_asm.specs.Knows.{Knows}
+use Rattle.m386_asm.specs.Layout.{Names, is_unknown}
+use Rattle.m386_asm.specs.Limits.{limit_seen}
+use Rattle.m386_asm.proofs.limits.lacks_field.Given as goal
+
+abbrev pub invariant-loop-field : goal.invariant-loop-field
+invariant-loop-field l = (ns : Names) → Knows l.names ns → list_any (λ (f : ℕ × Expression). is_unknown ns f.1) (map limit_seen (take l.field-index l.fields)) ≡ false

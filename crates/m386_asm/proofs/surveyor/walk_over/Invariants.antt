@@ -1,0 +1,15 @@
+-- The walk stands behind the lines before the rest.
+use Rattle.std.proofs.Common.{◌≡◌, ◌+◌, ◌-◌, ◌*◌, ◌^◌, ◌<◌, ◌≤◌, List, length}
+use Rattle.m386_words.specs.Text.{lines_of}
+use Rattle.m386_asm.specs.Layout.{AreLaid, Laid}
+use Rattle.m386_asm.specs.Surveys.{IsSurveying}
+use Rattle.m386_asm.proofs.Standing.{Stands}
+use Rattle.m386_asm.proofs.surveyor.walk_over.Given as goal
+
+abbrev pub invariant-loop-split : goal.invariant-loop-split
+invariant-loop-split l =
+    (l.walk.lines + length (lines_of l.rest) ≡ length (lines_of l.text)) × (l.walk.lines < 2 ^ 32 - 1) × (l.walk.place ≤ l.walk.lines * 2 ^ 70)
+    × ((ls : List Laid) → AreLaid l.text ls → Stands (λ before. IsSurveying before l.walk) ls l.rest)
+
+abbrev pub decreases-loop-split : goal.decreases-loop-split
+decreases-loop-split l = length l.rest

@@ -1,0 +1,11 @@
+pub mod Answered
+pub mod Bounds
+pub mod Drafts
+pub mod Jumps
+pub mod Knows
+pub mod Laws
+pub mod Layout
+pub mod Limits
+pub mod Surveys
+pub mod Turns
+pub mod Walks
