@@ -1,0 +1,5 @@
+//! Worked texts of the assembler.
+#![tactic(auto)]
+
+#[cfg(test)]
+mod tests;
