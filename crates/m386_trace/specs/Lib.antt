@@ -1,5 +1,6 @@
 pub mod Line
 pub mod Report
+pub mod Soak
 pub mod Tasks
 pub mod Told
 pub mod Words

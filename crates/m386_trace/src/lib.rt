@@ -7,6 +7,7 @@ pub mod laws;
 pub mod machine;
 pub mod proc;
 pub mod report;
+pub mod soak;
 pub mod task;
 pub mod verdict;
 pub mod words;

@@ -1,0 +1,7 @@
+use Rattle.std.proofs.Common.{◌≡◌, ◌++◌, map}
+use Rattle.std.specs.List.{range_with_len}
+use Rattle.m386_gen.specs.Generated.{worker_section}
+use Rattle.m386_gen.proofs.sections.add_workers.Given as goal
+
+abbrev pub invariant-loop-number : goal.invariant-loop-number
+invariant-loop-number l = l.sections ≡ l.initial.sections ++ map worker_section (range_with_len 0 l.number)
