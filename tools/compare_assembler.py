@@ -1,11 +1,12 @@
 #!/usr/bin/env python3
-"""Compares the assembler with nasm: for lines of each row of the opcode table and each form of operands, and for random lines.
+"""Compares the assembler with nasm, for random lines of each form of operands.
 
 usage: tools/compare_assembler.py [--lines N] [--seed N] COMMAND..      in the repository's top folder
 
 COMMAND is a program that reads a text of the assembler and writes the image, as `crates/m386/out/m386 asm`. Each line is laid out at a
-place of its own. The same line in nasm's syntax, with the same numbers, is laid out at the same place; its bytes must be the same, or ndisasm must show the
-same operation for both, but for the differences that the function `plain` takes away. Any other is printed, and the exit status is 1.
+place of its own. The same line in nasm's syntax, with the same numbers, is laid out at the same place. Where its bytes are others, ndisasm must
+show the same operation for both (`plain` says what is the same), and one of the rules in RULES must say why they are others: how many
+lines each rule explains is printed. A line that none explains, or that nasm refuses, is printed too, and then the exit status is 1.
 """
 import argparse
 import random
@@ -24,6 +25,7 @@ EIGHT = "add or adc sbb and sub xor cmp".split()
 SHIFTS = "rol ror rcl rcr shl shr sar".split()
 SIZES = {8: "byte", 16: "word", 32: "dword"}
 STEP = 32
+PREFIXES = bytes.fromhex("262e363e646566f0f2f3")
 
 
 class Lines:
@@ -64,7 +66,8 @@ class Lines:
             return self.register(width)
         return ("" if beside else SIZES[width] + " ") + self.memory()
 
-    def operation(self):
+    def operation(self, place):
+        """A line that begins at this place."""
         pick = self.random.choice
         width = pick([8, 16, 32])
         wide = pick([16, 32])
@@ -84,6 +87,8 @@ class Lines:
             "scan": lambda: f"{pick(['bsf', 'bsr', 'imul'])} {self.register(wide)}, {self.place(wide, True)}",
             "product": lambda: f"imul {self.register(wide)}, {self.place(wide, True)}, {self.text(self.number(wide))}",
             "extend": lambda: f"{pick(['movzx', 'movsx'])} {self.register(wide)}, {self.place(8)}",
+            "extend_word": lambda: f"{pick(['movzx', 'movsx'])} {self.register(32)}, {self.place(16)}",
+            "rights": lambda: f"{pick(['lar', 'lsl'])} {pick([self.register(32) + ', ' + self.place(16), self.register(16) + ', ' + self.place(16, True)])}",
             "lea": lambda: f"lea {self.register(wide)}, {self.memory()}",
             "far": lambda: f"{pick('les lds lss lfs lgs'.split())} {self.register(wide)}, {self.memory()}",
             "bound": lambda: f"bound {self.register(wide)}, {self.memory()}",
@@ -98,6 +103,7 @@ class Lines:
             "arpl": lambda: f"arpl {self.place(16, True)}, {self.register(16)}",
             "control": lambda: pick([f"mov {self.register(32)}, cr0", f"mov cr0, {self.register(32)}"]),
             "jump": lambda: f"{pick(['jmp', 'call'] + ['j' + c for c in CONDITIONS])} {self.text(self.random.randrange(2 ** 24))}",
+            "near": lambda: f"{pick('loop loopz loopnz jecxz jmp je'.split())} {self.text(max(0, place + 2 + self.random.randrange(-128, 128)))}",
             "indirect": lambda: f"{pick(['jmp', 'call'])} {self.place(wide)}",
             "indirect_far": lambda: f"{pick(['jmp', 'call'])} far {self.memory()}",
             "direct_far": lambda: f"{pick(['jmp', 'call'])} {self.random.randrange(65536)}:{self.text(self.random.randrange(2 ** 32))}",
@@ -122,6 +128,8 @@ def in_nasm(line):
     line = line.replace("[", "[nosplit ")
     line = re.sub(r"^(mov|sldt|str|smsw) ([abcd]x|[sb]p|[sd]i)(?=$|, [c-gs]s$)", r"\1 e\2", line)
     line = re.sub(r"^(jmp|call) far \[", r"\1 dword far [", line)
+    # nasm has a short jump to a label alone, and the first line's is 0.
+    line = re.sub(r"^(jmp|call|j\w+|loop\w*) (0x[0-9a-f]+|\d+)$", r"\1 s0+\2", line)
     line = re.sub(r"^(jmp|call) (\d+):(\w+)$", r"\1 dword \2:\3", line)
     return line
 
@@ -184,12 +192,15 @@ def shown(pairs):
         match = re.match(r"([0-9A-F]{8})  [0-9A-F]+ +(.*)", line)
         if match:
             texts[int(match.group(1), 16)] = match.group(2)
-    return {number: texts.get(number * STEP, "?") for number, _ in pairs}
+    return {number: texts.get(number * STEP, "nothing") for number, _ in pairs}
 
 
 def plain(text):
-    """An operation without what two spellings of it are shown with: the word of a short immediate or distance, a
-    displacement of 0, and the order of XCHG's and TEST's operands."""
+    """An operation without what two spellings of it are shown with: the word of a short immediate or distance, the sign of a short
+    one of 16 bits, a displacement of 0, and the order of XCHG's and TEST's operands."""
+    match = re.match(r"(\w+ ax),(?:byte )?([+-]?0x[0-9a-f]+)$", text)
+    if match:
+        text = f"{match.group(1)},{int(match.group(2), 16) & 0xffff:#x}"
     text = re.sub(r"\b(byte|short|near|dword|word) (?=[+-]?0x)", "", text)
     text = re.sub(r"([+-])(byte|dword) ", r"\1", text)
     text = re.sub(r"\+0x0\]", "]", text)
@@ -200,13 +211,83 @@ def plain(text):
     return text
 
 
+def split(code):
+    """The prefixes of an operation, and its other bytes."""
+    count = next(n for n in range(len(code) + 1) if code[n:n + 1] not in PREFIXES or n == len(code))
+    return code[:count], code[count:]
+
+
+def is_nop(line, ours, theirs):
+    return line == "xchg eax, eax" and theirs == b"\x90"
+
+
+def is_written_order(line, ours, theirs):
+    """The first register is that of ModRM's field for registers or memory, and nasm's first one is that of the other field. With EAX or AX as the second nasm has one byte."""
+    (before, mine), (first, other) = split(ours), split(theirs)
+    if not re.match(r"xchg \w+, \w+$", line) or before != first or mine[0] not in (0x86, 0x87):
+        return False
+    if len(other) == 1:
+        return bool(re.search(r", e?ax$", line))
+    return mine[0] == other[0] and mine[1] == 0xC0 | (other[1] & 7) << 3 | (other[1] >> 3 & 7)
+
+
+def is_rising(line, ours, theirs):
+    (mine, rest), (other, same) = split(ours), split(theirs)
+    return rest == same and mine == bytes(sorted(other))
+
+
+def is_own_opcode(line, ours, theirs):
+    """AX has an opcode with an immediate of 16 bits, which is as long as ModRM and an immediate of 8 bits."""
+    return bool(re.match(r"\w+ ax, ", line)) and len(ours) == len(theirs) and split(theirs)[1][0] == 0x83 and ours < theirs
+
+
+def is_less(line, ours, theirs):
+    return len(ours) == len(theirs) and ours < theirs
+
+
+def is_shorter(line, ours, theirs):
+    return len(ours) < len(theirs)
+
+
+# Why bytes of the same operation are others, each with its test; the first counts.
+RULES = [
+    ("90h is NOP, and no XCHG", is_nop),
+    ("XCHG has its operands as they are written", is_written_order),
+    ("prefixes rise", is_rising),
+    ("an opcode of AX alone, before 83h, is less and as long", is_own_opcode),
+    ("of other equally long bytes the least", is_less),
+    ("nasm's bytes aren't the shortest", is_shorter),
+]
+
+
+def rule_of(line, ours, theirs, mine, other):
+    """Which rule explains a line's bytes, if one does. NOP is shown as another operation than the XCHG that nasm takes it for."""
+    if plain(mine) != plain(other) and not is_nop(line, ours, theirs):
+        return None
+    return next((words for words, test in RULES if test(line, ours, theirs)), None)
+
+
 def differences(lines, ours, theirs):
+    """Of each line with other bytes than nasm's its number, the rule that explains it, and what is shown of both."""
     unlike = [n for n in range(len(lines)) if theirs[n] is not None and ours[n] != theirs[n]]
     if not unlike:
         return []
-    mine = shown([(n, ours[n]) for n in unlike])
-    other = shown([(n, theirs[n]) for n in unlike])
-    return [(n, mine[n], other[n]) for n in unlike if plain(mine[n]) != plain(other[n])]
+    mine, other = shown([(n, ours[n]) for n in unlike]), shown([(n, theirs[n]) for n in unlike])
+    return [(n, rule_of(lines[n], ours[n], theirs[n], mine[n], other[n]), mine[n], other[n]) for n in unlike]
+
+
+def form(line):
+    """A line without its numbers, and with kinds in place of registers and memory."""
+    line = re.sub(r"\[.*\]", "[m]", line)
+    line = re.sub(r"-?\b(0x[0-9a-f]+|\d+)\b", "n", line)
+    for kind, registers in (("r32", R32), ("r16", R16), ("r8", [r for r in R8 if r != "cl"]), ("s", SEGMENTS)):
+        line = re.sub(rf"\b({'|'.join(registers)})\b", kind, line)
+    return line
+
+
+def mnemonic(line):
+    """The word behind those that stand before a mnemonic."""
+    return re.sub(r"^(lock|rep|repz|repnz) ", "", line).split(" ")[0]
 
 
 def main():
@@ -216,18 +297,24 @@ def main():
     words.add_argument("command", nargs=argparse.REMAINDER)
     args = words.parse_args()
     source = Lines(args.seed)
-    lines = [source.operation() for _ in range(args.lines)]
+    lines = [source.operation(STEP * number) for number in range(args.lines)]
     ours, theirs = program_bytes(args.command, lines), nasm_bytes(lines)
     refused = [lines[n] for n in range(len(lines)) if theirs[n] is None]
     same = sum(a == b for a, b in zip(ours, theirs))
-    wrong = differences(lines, ours, theirs)
-    longer = sum(b is not None and len(a) > len(b) for a, b in zip(ours, theirs))
-    print(f"{len(lines)} lines: {same} with the same bytes, {len(refused)} that nasm refuses, {longer} longer than nasm's, {len(wrong)} different")
+    unlike = differences(lines, ours, theirs)
+    wrong = [row for row in unlike if row[1] is None]
+    print(f"{len(set(map(form, lines)))} forms of {len(set(map(mnemonic, lines)))} mnemonics")
+    print(f"{len(lines)} lines: {same} with the same bytes, {len(refused)} that nasm refuses, {len(unlike)} with others, {len(wrong)} of them unexplained")
+    for words, _ in RULES:
+        own = [n for n, rule, _, _ in unlike if rule == words]
+        longer = sum(len(ours[n]) > len(theirs[n]) for n in own)
+        example = f", as {lines[own[0]]}: {ours[own[0]].hex()}, nasm: {theirs[own[0]].hex()}" if own else ""
+        print(f"{len(own):6} ({longer} longer than nasm's): {words}{example}")
     for line in sorted(set(refused))[:20]:
         print("nasm refuses:", line)
-    for number, mine, other in wrong[:40]:
-        print(f"{lines[number]}: {ours[number].hex()} ({mine}), nasm: {theirs[number].hex()} ({other})")
-    sys.exit(1 if wrong else 0)
+    for number, _, mine, other in wrong[:40]:
+        print(f"unexplained: {lines[number]}: {ours[number].hex()} ({mine}), nasm: {theirs[number].hex()} ({other})")
+    sys.exit(1 if wrong or refused else 0)
 
 
 if __name__ == "__main__":

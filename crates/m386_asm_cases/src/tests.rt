@@ -2,8 +2,10 @@
 
 mod directives;
 mod faults;
+mod generated;
 mod instructions;
 mod kernel;
+mod mnemonics;
 mod names;
 mod operands;
 

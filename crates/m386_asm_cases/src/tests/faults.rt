@@ -103,7 +103,7 @@ fn the_least_kind_of_a_line_is_told(rt: HostRuntime) -> Result<(), Fail> {
 }
 
 /// Lines behind the headers of which two are faulty, and of which the first is told. A line that is faulty by itself defines no name, another does.
-const LINES: [(&str, u32, AsmKind); 8] = [
+const LINES: [(&str, u32, AsmKind); 10] = [
     ("frob\nmov eax, 08", 3, AsmKind::Mnemonic),
     (".byte 256\nfrob", 3, AsmKind::Range),
     (
@@ -116,6 +116,9 @@ const LINES: [(&str, u32, AsmKind); 8] = [
     ("jmp x\nx: .byte 256", 4, AsmKind::Range),
     ("jmp x\nx:\nx:", 5, AsmKind::NameTwice),
     (".byte x\nx = 1\nx = 256", 5, AsmKind::NameTwice),
+    // Of two lines that set a header the first is its limit.
+    (".org 8192\n.memory 16384", 3, AsmKind::Range),
+    (".bare 2 0\n.cpus 3", 3, AsmKind::Range),
 ];
 
 #[test]
@@ -253,6 +256,27 @@ const BEYOND: [&str; 42] = [
 #[test]
 fn what_is_beyond_a_limit_is_out_of_range(rt: HostRuntime) -> Result<(), Fail> {
     for line in BEYOND {
+        let image = laid_out(rt.alloc(), HEADERS, line)?;
+        assert_eq!(rt; fault_in(&image), Some((3, AsmKind::Range)), "{line}");
+    }
+    Ok(())
+}
+
+/// Instructions behind the headers with a number beside a limit, on its far side. Modulo 2^32 each target is near.
+const INSTRUCTIONS_BEYOND: [&str; 8] = [
+    "jmp 4294967295+1",
+    "call 4294967295+1",
+    "je -4294967295",
+    "loop 4294967295+1",
+    "jmp 0:4294967295+1",
+    "call -32769:0",
+    "mov ecx, 4294967295+1",
+    "inc dword [ebx-2147483649]",
+];
+
+#[test]
+fn what_is_beyond_a_limit_in_an_instruction_is_out_of_range(rt: HostRuntime) -> Result<(), Fail> {
+    for line in INSTRUCTIONS_BEYOND {
         let image = laid_out(rt.alloc(), HEADERS, line)?;
         assert_eq!(rt; fault_in(&image), Some((3, AsmKind::Range)), "{line}");
     }

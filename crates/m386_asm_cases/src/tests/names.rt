@@ -4,7 +4,7 @@ use m386_lines::kind::AsmKind;
 use std::test::Fail;
 
 /// Lines at 0x1000 with names of their own, and their bytes. An operand with a name is spelled in full.
-const NAMED: [(&str, &[u8]); 17] = [
+const NAMED: [(&str, &[u8]); 18] = [
     ("x = 5\npush x", &[0x68, 0x05, 0x00, 0x00, 0x00]),
     ("push x\nx = 5", &[0x68, 0x05, 0x00, 0x00, 0x00]),
     ("push x - 6\nx = 5", &[0x68, 0xff, 0xff, 0xff, 0xff]),
@@ -13,6 +13,7 @@ const NAMED: [(&str, &[u8]); 17] = [
         "mov al, [ebx+x]\nx = 1",
         &[0x8a, 0x83, 0x01, 0x00, 0x00, 0x00],
     ),
+    ("shl eax, x\nx = 1", &[0xc1, 0xe0, 0x01]),
     // The displacement that isn't written has its full size too.
     (
         "add dword [ecx], x\nx = 1",
@@ -101,6 +102,48 @@ fn a_name_stands_wherever_an_expression_may(rt: HostRuntime) -> Result<(), Fail>
         assert!(rt; wanted.is_ok(), "{numbers}");
         assert_eq!(rt; behind(&backward, 0), behind(&wanted, 0), "{names}");
         assert_eq!(rt; behind(&forward, 0), behind(&wanted, 0), "{names}");
+    }
+    Ok(())
+}
+
+/// Lines with the name `x` in each place where an expression may stand, and with no other.
+const UNKNOWN: [&str; 25] = [
+    ".gdt x 0",
+    ".gdt 0 x",
+    ".idt x 0",
+    ".idt 0 x",
+    ".bare x 0",
+    ".bare 0 x",
+    ".task x 0",
+    ".task 0 x",
+    ".plan x 0 0",
+    ".plan 0 x 0",
+    ".plan 0 0 x",
+    ".byte 0, x",
+    ".desc x 0 0 0",
+    ".desc 0 x 0 0",
+    ".desc 0 0 x 0",
+    ".desc 0 0 0 x",
+    ".gate x 0 0 0",
+    ".gate 0 x 0 0",
+    ".gate 0 0 x 0",
+    ".gate 0 0 0 x",
+    ".tss eip=0 map=x",
+    "jmp x",
+    "jmp x:0",
+    "jmp 0:x",
+    "mov dword [ebx+x], 1",
+];
+
+#[test]
+fn a_name_that_no_line_defines_is_told_wherever_it_stands(rt: HostRuntime) -> Result<(), Fail> {
+    for line in UNKNOWN {
+        let image = laid_out(rt.alloc(), BEFORE, line)?;
+        assert_eq!(rt; fault_in(&image), Some((4, AsmKind::UnknownName)), "{line}");
+    }
+    for text in [".memory x\n.cpus 1", ".cpus x\n.memory 4096"] {
+        let image = laid_out(rt.alloc(), "", text)?;
+        assert_eq!(rt; fault_in(&image), Some((1, AsmKind::UnknownName)), "{text}");
     }
     Ok(())
 }

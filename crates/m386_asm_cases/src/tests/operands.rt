@@ -282,7 +282,7 @@ fn other_operands_of_arithmetic_are_refused(rt: HostRuntime) -> Result<(), Fail>
 }
 
 /// Operands that are too many or no expressions, and words before what can't have them.
-const NO_OPERANDS: [&str; 25] = [
+const NO_OPERANDS: [&str; 27] = [
     "int eax",
     "int3 3",
     "ret 1, 2",
@@ -303,6 +303,8 @@ const NO_OPERANDS: [&str; 25] = [
     "rep add eax, 1",
     "rep hlt",
     "repz lock movsb",
+    "lock repz movsb",
+    "lock repnz scasb",
     "lock mov [eax], ebx",
     "lock add eax, ebx",
     "lock cmp [eax], ebx",
@@ -320,7 +322,7 @@ fn what_is_no_operand_is_refused(rt: HostRuntime) -> Result<(), Fail> {
 }
 
 /// What is no mnemonic, or has no mnemonic in its place.
-const STRANGE: [&str; 19] = [
+const STRANGE: [&str; 20] = [
     "callf 8:0",
     "jmpf 8:0",
     "esc",
@@ -329,6 +331,7 @@ const STRANGE: [&str; 19] = [
     "lock",
     "rep repz",
     "x: y: hlt",
+    "x: y = 5",
     "5 hlt",
     "eax: hlt",
     ": hlt",
