@@ -1,7 +1,7 @@
 pub mod Allowed
 pub mod Answers
 pub mod Images
-pub mod Numbers
-pub mod Options
 pub mod Runs
 pub mod Sent
+pub mod Soaks
+pub mod Tasks

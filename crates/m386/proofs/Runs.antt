@@ -1,5 +1,5 @@
 -- What the parts of a call come to together: the source, the run and the report.
-use Rattle.std.proofs.Common.{◌≡◌, ℕ, ◌*◌, ◌≤◌, refl, sym, subst, ap, ◌∙◌, arith, List, cond, Bool, true, false, nat_lt, Option, Some, None, Result, Ok}
+use Rattle.std.proofs.Common.{◌≡◌, ℕ, ◌*◌, ◌≤◌, inr, refl, sym, subst, ap, ◌∙◌, arith, List, cond, Bool, true, false, nat_lt, Option, Some, None, Result, Ok}
 use Rattle.m386_base.specs.declared.ask.Cycle.{Cycle}
 use Rattle.m386_book.specs.Verdict.{IsFirstFailure}
 use Rattle.m386_book.specs.declared.verdict.Verdict.{Verdict}
@@ -22,14 +22,14 @@ use Rattle.m386_state.specs.declared.proc.Proc.{Proc}
 use Rattle.m386_step.specs.Run.{BeginsWith, Run}
 use Rattle.m386_turns.specs.Turns.{AllDone}
 use Rattle.m386_trace.specs.Report.{report_text}
-use Rattle.m386.specs.Top.{IsAnswer, IsAnswerOf, IsRunOf, IsRunText, IsScheduled, HasAllowed, SourceGave, at_edges, at_out, at_source, count_of, excess, most_steps, refusal}
-use Rattle.m386.specs.Words.{in_no_thread, without_threads, words_mean, words_mean_plainly}
-use Rattle.m386.specs.declared.words.Asked.{Asked}
-use Rattle.m386.specs.declared.words.Schedule.TheVariants.{Threads, Named}
-use Rattle.m386.specs.declared.status.UsageKind.{UsageKind}
-use Rattle.m386.specs.declared.status.UsageKind.TheVariants.{Cpus, Budget}
+use Rattle.m386.specs.Top.{IsRunAnswer, IsAnswerOf, IsRunOf, IsRunText, IsScheduled, HasAllowed, HasNone, SourceGave, at_edges, at_out, at_source, count_of, excess, most_steps, refusal}
+use Rattle.m386_calls.specs.Words.{in_no_thread}
+use Rattle.m386_calls.specs.declared.call.Asked.{Asked}
+use Rattle.m386_calls.specs.declared.call.Schedule.TheVariants.{Threads, Named}
+use Rattle.m386_calls.specs.declared.usage.UsageKind.{UsageKind}
+use Rattle.m386_calls.specs.declared.usage.UsageKind.TheVariants.{Cpus, Budget}
 use Rattle.m386.specs.declared.status.Status.{Status}
-use Rattle.m386.specs.declared.status.Status.TheVariants.{Done, Memory, Usage, ReadFault, WriteFault, Image, TooLong}
+use Rattle.m386.specs.declared.status.Status.TheVariants.{Done, Memory, Usage, ReadFault, WriteFault, Image, Asm, TooLong}
 
 -- the report of a run whose verdict is known
 pub text_of_run : (image : ImageData) (asked : Asked) (first : Contents) (history : List Cycle) (ends : List (ProcEnd Proc)) (verdict : Verdict) → IsValid image → refusal image asked ≡ None → IsRunOf image asked history ends → BeginsWith image first → IsFirstFailure image history verdict → IsRunText image asked (report_text image first history ends verdict)
@@ -50,7 +50,7 @@ gave_beside : (l l' h h' : Option (List ℕ)) (r r' w w' : ℕ) (bytes : List �
 gave_beside l l' h h' r r' w w' bytes g = record { within = g.within; gave = g.gave; emptied = g.emptied }
 
 -- what a source and the run of its image come to
-pub run_answers : (meant : Result Asked UsageKind) (asked : Asked) (image : ImageData) (l l' h h' : Option (List ℕ)) (r r' w w' : ℕ) (status : Status) → meant ≡ Ok asked → HasAllowed asked (at_source l r) (at_source l' r') image → IsAnswerOf image asked (at_out h w) (at_out h' w') status → IsAnswer meant (at_edges l r h w) (at_edges l' r' h' w') status
+pub run_answers : (meant : Result Asked UsageKind) (asked : Asked) (image : ImageData) (l l' h h' : Option (List ℕ)) (r r' w w' : ℕ) (status : Status) → meant ≡ Ok asked → HasAllowed asked (at_source l r) (at_source l' r') image → IsAnswerOf image asked (at_out h w) (at_out h' w') status → IsRunAnswer meant (at_edges l r h w) (at_edges l' r' h' w') status
 run_answers meant asked image l l' h h' r r' w w' Done e a o = (
   o.0,
   record {
@@ -82,7 +82,30 @@ run_answers meant asked image l l' h h' r r' w w' Memory e a o = o
 run_answers meant asked image l l' h h' r r' w w' (Usage kind) e a o = absurd o
 run_answers meant asked image l l' h h' r r' w w' ReadFault e a o = absurd o
 run_answers meant asked image l l' h h' r r' w w' (Image fault) e a o = absurd o
+run_answers meant asked image l l' h h' r r' w w' (Asm line kind) e a o = absurd o
 run_answers meant asked image l l' h h' r r' w w' TooLong e a o = absurd o
+
+-- what a source that has no such image comes to, with the output as before
+pub none_answers : (meant : Result Asked UsageKind) (asked : Asked) (l l' h h' : Option (List ℕ)) (r r' w w' : ℕ) (status : Status) → meant ≡ Ok asked → HasNone asked (at_source l r) (at_source l' r') status → h' ≡ h → IsRunAnswer meant (at_edges l r h w) (at_edges l' r' h' w') status
+none_answers meant asked l l' h h' r r' w w' Memory e n same = same
+none_answers meant asked l l' h h' r r' w w' (Usage kind) e n same = (
+  inr (record {
+    asked = n.asked;
+    words_mean_it = e ∙ n.words_mean_it;
+    bytes = n.bytes;
+    was_read = gave_beside l l' h h' r r' w w' n.bytes n.was_read;
+    image = n.image;
+    is_image = n.is_image;
+    refused = n.refused;
+  }),
+  same,
+)
+none_answers meant asked l l' h h' r r' w w' ReadFault e n same = ((asked, e), n, same)
+none_answers meant asked l l' h h' r r' w w' (Image fault) e n same = ((asked, e), (n.0, gave_beside l l' h h' r r' w w' n.0 n.1, n.2), same)
+none_answers meant asked l l' h h' r r' w w' (Asm line kind) e n same = absurd n
+none_answers meant asked l l' h h' r r' w w' TooLong e n same = ((asked, e), n, same)
+none_answers meant asked l l' h h' r r' w w' Done e n same = absurd n
+none_answers meant asked l l' h h' r r' w w' WriteFault e n same = absurd n
 
 -- ---- how many processors run
 
@@ -115,9 +138,9 @@ run_of_threads image asked count history ends s e run = record {
   in_order = subst (λ x. IsScheduled image (count_of image asked.cpus) asked.steps x history) (sym s) tt;
 }
 
--- words that ask for an order mean it to a call that starts no thread, too
-pub means_plainly : (words : List (List ℕ)) (asked : Asked) (order : Order) → words_mean words ≡ Ok asked → asked.schedule ≡ Named order → words_mean_plainly words ≡ Ok asked
-means_plainly words asked order e s = ap without_threads e ∙ ap (in_no_thread asked) s
+-- a call that starts no thread makes a run in an order
+pub means_plainly : (asked : Asked) (order : Order) → asked.schedule ≡ Named order → in_no_thread asked asked.schedule ≡ Ok asked
+means_plainly asked order s = ap (in_no_thread asked) s
 
 -- ---- the machine that threads leave
 

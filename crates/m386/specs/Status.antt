@@ -1,25 +1,30 @@
 -- The numbers, names and texts of statuses.
 use Rattle.std.specs.Prelude.{ℕ, List, [], ◌++◌, codes, decimal}
+use Rattle.m386_calls.specs.Usage.{usage_number, usage_name}
 use Rattle.m386_image.specs.Fault.{fault_number, fault_name}
-use Rattle.m386.specs.declared.status.UsageKind.{UsageKind}
-use Rattle.m386.specs.declared.status.UsageKind.TheVariants.{Command, Line, Value, Cpus, Budget}
+use Rattle.m386_asm.specs.Layout.{kind_number}
+use Rattle.m386_lines.specs.declared.kind.AsmKind.{AsmKind}
+use Rattle.m386_lines.specs.declared.kind.AsmKind.TheVariants as kinds
 use Rattle.m386.specs.declared.status.Status.{Status}
-use Rattle.m386.specs.declared.status.Status.TheVariants.{Done, Memory, Usage, ReadFault, WriteFault, Image, TooLong}
+use Rattle.m386.specs.declared.status.Status.TheVariants.{Done, Memory, Usage, ReadFault, WriteFault, Image, Asm, TooLong}
 
--- Own choice: docs/DECISIONS.md, "Statuses"
-abbrev pub usage_number : UsageKind → ℕ
-usage_number Command = 1
-usage_number Line = 2
-usage_number Value = 3
-usage_number Cpus = 4
-usage_number Budget = 5
-
-abbrev pub usage_name : UsageKind → List ℕ
-usage_name Command = codes "Command"
-usage_name Line = codes "Line"
-usage_name Value = codes "Value"
-usage_name Cpus = codes "Cpus"
-usage_name Budget = codes "Budget"
+-- The names of what is wrong with a line of a source text.
+-- Own choice: docs/DECISIONS.md, "The assembler's faults"
+unfoldable pub kind_name : AsmKind → List ℕ
+kind_name kinds.Ascii = codes "Ascii"
+kind_name kinds.Token = codes "Token"
+kind_name kinds.Number = codes "Number"
+kind_name kinds.Mnemonic = codes "Mnemonic"
+kind_name kinds.Operands = codes "Operands"
+kind_name kinds.UnknownName = codes "UnknownName"
+kind_name kinds.NameTwice = codes "NameTwice"
+kind_name kinds.Directive = codes "Directive"
+kind_name kinds.Arguments = codes "Arguments"
+kind_name kinds.HeaderTwice = codes "HeaderTwice"
+kind_name kinds.HeaderMissing = codes "HeaderMissing"
+kind_name kinds.Range = codes "Range"
+kind_name kinds.Overlap = codes "Overlap"
+kind_name kinds.PlanOrder = codes "PlanOrder"
 
 -- The exit status of the program.
 -- Own choice: docs/DECISIONS.md, "Statuses"
@@ -30,11 +35,16 @@ status_number (Usage kind) = 2
 status_number ReadFault = 3
 status_number WriteFault = 4
 status_number (Image fault) = 5
+status_number (Asm line kind) = 6
 status_number TooLong = 7
 
 -- the line of a fault with its number and name, behind the words that begin it
 abbrev pub fault_line : List ℕ → ℕ → List ℕ → List ℕ
 fault_line begin number name = (begin ++ decimal number ++ codes " ") ++ (name ++ codes "\n")
+
+-- the line of a faulty line of a source text, behind the words that begin it
+abbrev pub asm_line : List ℕ → ℕ → AsmKind → List ℕ
+asm_line begin line kind = (begin ++ decimal line) ++ fault_line (codes ": fault ") (kind_number kind) (kind_name kind)
 
 -- The line that is written to err: none where the status is Done.
 -- Own choice: docs/DECISIONS.md, "Statuses"
@@ -45,4 +55,5 @@ status_line (Usage kind) = fault_line (codes "m386: usage fault ") (usage_number
 status_line ReadFault = codes "m386: read fault\n"
 status_line WriteFault = codes "m386: write fault\n"
 status_line (Image fault) = fault_line (codes "m386: image fault ") (fault_number fault) (fault_name fault)
+status_line (Asm line kind) = asm_line (codes "m386: line ") line kind
 status_line TooLong = codes "m386: input too long\n"

@@ -1,16 +1,18 @@
-//! The program `m386`: it runs an image of a shared-memory machine of 80386 processors, and writes the report.
+//! The program `m386`: it runs an image of a shared-memory machine of 80386 processors, and writes the report or a line.
 #![tactic(auto)]
 
+mod assembling;
+mod input;
 mod laws;
 mod perform;
 mod run;
 mod same;
+mod soak;
 mod status;
 mod tell;
 #[cfg(test)]
 mod tests;
 mod top;
-mod words;
 
 use crate::status::Status;
 use crate::tell::tell;

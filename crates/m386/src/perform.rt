@@ -3,20 +3,26 @@ ghost use Rattle.std.specs.Prelude.{◌≡◌, ◌<◌, ◌≤◌, None, Ok, All
 ghost use Rattle.m386_image.specs.Format.{IsValid};
 ghost use Rattle.m386_step.specs.Run.{BeginsWith};
 ghost use Rattle.m386_book.specs.Verdict.{IsFirstFailure};
-ghost use Rattle.m386.specs.Top.{IsAnswer, IsAnswerOf, IsRunOf, HasAllowed, HasNone, at_edges, at_source, at_out, count_of, excess, refusal};
-ghost use Rattle.m386.specs.Words.{texts, IsAsked, words_mean_plainly};
-ghost use Rattle.m386.specs.declared.words.Asked.{Asked as AskedData};
-ghost use Rattle.m386.specs.declared.words.Schedule.TheVariants.{Threads};
+ghost use Rattle.m386.specs.Top.{IsAnswer, IsAnswerOf, IsRunAnswer, IsRunOf, HasAllowed, HasNone, at_edges, at_source, at_out, count_of, excess, refusal};
+ghost use Rattle.m386_calls.specs.Words.{texts, IsAsked, in_no_thread, words_mean_plainly};
+ghost use Rattle.m386_calls.specs.declared.call.Asked.{Asked as AskedData};
+ghost use Rattle.m386_calls.specs.declared.call.Call.TheVariants.{Run};
+ghost use Rattle.m386_calls.specs.declared.call.Schedule.TheVariants.{Threads};
 
+use crate::assembling::assemble_input;
+use crate::input::read_input;
 use crate::run::{run_image, run_in_threads};
-use crate::status::{Status, UsageKind};
-use crate::words::{Asked, Schedule, read_words};
+use crate::soak::soak;
+use crate::status::Status;
 use m386_base::fault::NoMemory;
 use m386_book::clean::clean;
 use m386_book::verdict::Verdict;
+use m386_calls::call::{Asked, Call, Schedule};
+use m386_calls::reading::read_words;
+use m386_calls::stop::CallStop;
+use m386_calls::usage::UsageKind;
 use m386_edge::failed::Failed;
 use m386_edge::gate::Gate;
-use m386_edge::reading::{ReadEnd, read_whole};
 use m386_edge::sink::Sink;
 use m386_edge::source::Source;
 use m386_image::fault::ReadStop;
@@ -28,9 +34,6 @@ use m386_trace::report::report;
 use std::alloc::Global;
 use std::sync::Wait;
 use std::thread::Threads;
-
-/// The most bytes of an input.
-const MOST_BYTES: usize = 20_971_520;
 
 /// The most steps of all processors together.
 const MOST_STEPS: u64 = 262_144;
@@ -59,7 +62,7 @@ fn excess_of(has: u8, count: u8, steps: u32) -> Option<UsageKind>
 }
 
 /// The verdict on a run.
-fn verdict_on(alloc: Global, image: &Image, ended: &Ended<Proc>) -> Result<Verdict, NoMemory>
+pub fn verdict_on(alloc: Global, image: &Image, ended: &Ended<Proc>) -> Result<Verdict, NoMemory>
     requires { All (λ c. c.cpu < 8) ended.now.log.cycles }
     ensures { IfOk result (IsFirstFailure image.now ended.now.log.cycles) }
 {
@@ -109,12 +112,7 @@ fn read_allowed<S: Source>(
     ensures valid { IfOk result (λ r. IsValid r.0) }
     ensures count { IfOk result (λ r. (r.1 ≡ count_of r.0 asked.now.cpus) × (1 ≤ r.1) × (r.1 ≤ r.0.cpus)) }
 {
-    let bytes = match read_whole(alloc, source, MOST_BYTES) {
-        Ok(bytes) => bytes,
-        Err(ReadEnd::Memory) => return Err(Status::Memory),
-        Err(ReadEnd::Failed) => return Err(Status::ReadFault),
-        Err(ReadEnd::TooLong) => return Err(Status::TooLong),
-    };
+    let bytes = read_input(alloc, source)?;
     let image = match read_image(alloc, &bytes) {
         Ok(image) => image,
         Err(ReadStop::Memory) => return Err(Status::Memory),
@@ -125,6 +123,32 @@ fn read_allowed<S: Source>(
         Some(kind) => Err(Status::Usage(kind)),
         None => Ok((image, cpus)),
     }
+}
+
+/// Makes the run that is asked for with what the source has, where that is no run in threads.
+fn perform_run<S: Source, K: Sink>(
+    alloc: Global,
+    asked: &Asked,
+    source: &mut S,
+    out: &mut K,
+) -> Status
+    requires { IsAsked asked.now }
+    ensures { IsRunAnswer (in_no_thread asked.now asked.now.schedule)
+        (at_edges (S.left source.old) (S.faults source.old) (K.held out.old) (K.faults out.old))
+        (at_edges (S.left source.new) (S.faults source.new) (K.held out.new) (K.faults out.new))
+        result }
+{
+    let Schedule::Named(order) = &asked.schedule else {
+        return Status::Usage(UsageKind::Value);
+    };
+    let (image, cpus) = match read_allowed(alloc, source, asked) {
+        Ok(allowed) => allowed,
+        Err(status) => return status,
+    };
+    let Ok(ended) = run_image(alloc, &image, cpus, asked.steps, order) else {
+        return Status::Memory;
+    };
+    report_on(alloc, &image, &ended, out)
 }
 
 /// Does what the words ask for with what the source has, where that is no run in threads.
@@ -139,21 +163,16 @@ pub fn perform<S: Source, K: Sink>(
         (at_edges (S.left source.new) (S.faults source.new) (K.held out.new) (K.faults out.new))
         result }
 {
-    let asked = match read_words(words) {
-        Ok(asked) => asked,
-        Err(kind) => return Status::Usage(kind),
+    let call = match read_words(alloc, words) {
+        Ok(call) => call,
+        Err(CallStop::Memory) => return Status::Memory,
+        Err(CallStop::Refused(kind)) => return Status::Usage(kind),
     };
-    let Schedule::Named(order) = &asked.schedule else {
-        return Status::Usage(UsageKind::Value);
-    };
-    let (image, cpus) = match read_allowed(alloc, source, &asked) {
-        Ok(allowed) => allowed,
-        Err(status) => return status,
-    };
-    let Ok(ended) = run_image(alloc, &image, cpus, asked.steps, order) else {
-        return Status::Memory;
-    };
-    report_on(alloc, &image, &ended, out)
+    match &call {
+        Call::Run(asked) => perform_run(alloc, asked, source, out),
+        Call::Assemble => assemble_input(alloc, source, out),
+        Call::Soak(number) => soak(alloc, *number, out),
+    }
 }
 
 /// Makes the run in threads that is asked for with what the source has.
@@ -167,7 +186,7 @@ pub fn perform_in_threads<S: Source, K: Sink, G: Gate + Sync, R: Threads + Wait 
 ) -> Status
     requires kept { IsAsked asked.now }
     requires threads { asked.now.schedule ≡ Threads }
-    ensures { IsAnswer (Ok asked.now)
+    ensures { IsAnswer (Ok (Run asked.now))
         (at_edges (S.left source.old) (S.faults source.old) (K.held out.old) (K.faults out.old))
         (at_edges (S.left source.new) (S.faults source.new) (K.held out.new) (K.faults out.new))
         result }

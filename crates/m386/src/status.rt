@@ -1,49 +1,54 @@
 //! How a call of the program ends, with its number and its text.
 ghost use Rattle.std.specs.Prelude.{◌≡◌};
-ghost use Rattle.m386.specs.Status.{usage_number, usage_name, status_number};
+ghost use Rattle.m386_asm.specs.Layout.{kind_number};
+ghost use Rattle.m386.specs.Status.{kind_name, status_number};
 
+use m386_calls::usage::UsageKind;
 use m386_image::fault::ImageFault;
+use m386_lines::kind::AsmKind;
 
-/// What is wrong with the words.
-#[derive(Clone, Copy, Debug, PartialEq, Eq)]
-pub enum UsageKind {
-    /// There is no word, or the first isn't a command.
-    Command,
-    /// A word isn't an option of the command with its value, or an option stands twice.
-    Line,
-    /// The value of an option is outside its limits.
-    Value,
-    /// More processors are asked for than the image has.
-    Cpus,
-    /// Processors times steps is more than a run may have.
-    Budget,
+/// The number of what is wrong with a line of a source text, from 1.
+pub fn kind_number(kind: AsmKind) -> u8
+    ensures { result ≡ kind_number kind }
+{
+    match kind {
+        AsmKind::Ascii => 1,
+        AsmKind::Token => 2,
+        AsmKind::Number => 3,
+        AsmKind::Mnemonic => 4,
+        AsmKind::Operands => 5,
+        AsmKind::UnknownName => 6,
+        AsmKind::NameTwice => 7,
+        AsmKind::Directive => 8,
+        AsmKind::Arguments => 9,
+        AsmKind::HeaderTwice => 10,
+        AsmKind::HeaderMissing => 11,
+        AsmKind::Range => 12,
+        AsmKind::Overlap => 13,
+        AsmKind::PlanOrder => 14,
+    }
 }
 
-impl UsageKind {
-    /// Its number, from 1.
-    pub fn number(self) -> u8
-        ensures { result ≡ usage_number self }
-    {
-        match self {
-            UsageKind::Command => 1,
-            UsageKind::Line => 2,
-            UsageKind::Value => 3,
-            UsageKind::Cpus => 4,
-            UsageKind::Budget => 5,
-        }
-    }
-
-    /// Its name.
-    pub fn name(self) -> &'static str
-        ensures { result.now ≡ usage_name self }
-    {
-        match self {
-            UsageKind::Command => "Command",
-            UsageKind::Line => "Line",
-            UsageKind::Value => "Value",
-            UsageKind::Cpus => "Cpus",
-            UsageKind::Budget => "Budget",
-        }
+/// The name of what is wrong with a line of a source text.
+#[tactic(auto, unfolding(crate::specs::Status::kind_name))]
+pub fn kind_name(kind: AsmKind) -> &'static str
+    ensures { result.now ≡ kind_name kind }
+{
+    match kind {
+        AsmKind::Ascii => "Ascii",
+        AsmKind::Token => "Token",
+        AsmKind::Number => "Number",
+        AsmKind::Mnemonic => "Mnemonic",
+        AsmKind::Operands => "Operands",
+        AsmKind::UnknownName => "UnknownName",
+        AsmKind::NameTwice => "NameTwice",
+        AsmKind::Directive => "Directive",
+        AsmKind::Arguments => "Arguments",
+        AsmKind::HeaderTwice => "HeaderTwice",
+        AsmKind::HeaderMissing => "HeaderMissing",
+        AsmKind::Range => "Range",
+        AsmKind::Overlap => "Overlap",
+        AsmKind::PlanOrder => "PlanOrder",
     }
 }
 
@@ -62,6 +67,13 @@ pub enum Status {
     WriteFault,
     /// The input is no image; its first fault.
     Image(ImageFault),
+    /// The input is no source text of an image; its first faulty line, from 1, and the least of its kinds.
+    Asm {
+        /// The line's number.
+        line: u32,
+        /// What is wrong with it.
+        kind: AsmKind,
+    },
     /// The input is longer than any input may be.
     TooLong,
 }
@@ -78,6 +90,7 @@ impl Status {
             Status::ReadFault => 3,
             Status::WriteFault => 4,
             Status::Image(_) => 5,
+            Status::Asm { .. } => 6,
             Status::TooLong => 7,
         }
     }

@@ -1,12 +1,14 @@
 //! What calls of the program answer where an edge fails, and the texts of statuses. `tools/check_program.py` has whole runs of the built program.
 mod several;
+mod soak;
 mod threads;
 
 ghost use Rattle.std.specs.Prelude.{◌≤◌};
 
-use crate::status::{Status, UsageKind};
+use crate::status::Status;
 use crate::tell::tell;
 use crate::top::{top, top_plain};
+use m386_calls::usage::UsageKind;
 use m386_edge::gate::OpenGate;
 use m386_edge::mem_sink::MemSink;
 use m386_edge::mem_source::MemSource;

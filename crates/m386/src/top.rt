@@ -1,20 +1,26 @@
 //! The calls of the program: words and an input in, the report or the cause of its absence out.
-ghost use Rattle.std.specs.Prelude.{◌≡◌, ◌≤◌, ◌<◌, ℕ, List, Ok, Err, Some, None, IfSome, length};
+ghost use Rattle.std.specs.Prelude.{◌≡◌, ◌≤◌, ◌<◌, ℕ, List, Ok, Err, Some, None, IfOk, IfSome, length};
 ghost use Rattle.m386_image.specs.Fault.{FirstFault};
 ghost use Rattle.m386_image.specs.Format.{ImageOf};
 ghost use Rattle.m386_image.specs.declared.fault.ImageFault.{ImageFault as FaultData};
 ghost use Rattle.m386_image.specs.declared.image.Image.{Image as ImageData};
+ghost use Rattle.m386_asm.specs.Layout.{Layout};
 ghost use Rattle.m386_base.specs.Bus.{Rose};
+ghost use Rattle.m386_lines.specs.declared.kind.AsmKind.{AsmKind as AsmData};
 ghost use Rattle.m386.specs.Top.{IsAnswer, OrMemory, Tells, at_edges, most_bytes, refusal};
-ghost use Rattle.m386.specs.Words.{texts, IsAsked, words_mean, words_mean_plainly};
-ghost use Rattle.m386.specs.declared.status.UsageKind.{UsageKind as KindData};
-ghost use Rattle.m386.specs.declared.words.Asked.{Asked as AskedData};
-ghost use Rattle.m386.specs.declared.words.Schedule.TheVariants.{Threads};
+ghost use Rattle.m386_calls.specs.Words.{texts, IsAsked, words_mean, words_mean_plainly};
+ghost use Rattle.m386_calls.specs.declared.usage.UsageKind.{UsageKind as KindData};
+ghost use Rattle.m386_calls.specs.declared.call.Asked.{Asked as AskedData};
+ghost use Rattle.m386_calls.specs.declared.call.Call.TheVariants.{Assemble, Run, Soak};
+ghost use Rattle.m386_calls.specs.declared.call.Schedule.TheVariants.{Threads};
 
 use crate::perform::{perform, perform_in_threads};
 use crate::status::Status;
 use crate::tell::tell;
-use crate::words::{Asked, Schedule, read_words};
+use m386_base::fault::NoMemory;
+use m386_calls::call::{Asked, Call, Schedule};
+use m386_calls::reading::read_words;
+use m386_calls::stop::CallStop;
 use m386_edge::gate::Gate;
 use m386_edge::sink::Sink;
 use m386_edge::source::Source;
@@ -52,22 +58,38 @@ pub fn top_plain<S: Source, K: Sink, E: Sink>(
     // Words that are refused are refused by this name, whatever the input is.
     ensures usage { (kind : KindData) → words_mean_plainly (texts words.now) ≡ Err kind → OrMemory result (Status.Usage kind) }
     // Valid input with no fault counted is never refused.
-    ensures complete { (asked : AskedData) (bytes : List ℕ) (image : ImageData) → words_mean_plainly (texts words.now) ≡ Ok asked
+    ensures complete { (asked : AskedData) (bytes : List ℕ) (image : ImageData) → words_mean_plainly (texts words.now) ≡ Ok (Run asked)
         → S.left source.old ≡ Some bytes → length bytes ≤ most_bytes → ImageOf bytes image → refusal image asked ≡ None
         → ¬ Rose (S.faults source.old) (S.faults source.new) → ¬ Rose (K.faults out.old) (K.faults out.new)
         → OrMemory result Status.Done }
     // More than an image has, or than a run may take, is refused by its name.
-    ensures excess { (asked : AskedData) (bytes : List ℕ) (image : ImageData) (kind : KindData) → words_mean_plainly (texts words.now) ≡ Ok asked
+    ensures excess { (asked : AskedData) (bytes : List ℕ) (image : ImageData) (kind : KindData) → words_mean_plainly (texts words.now) ≡ Ok (Run asked)
         → S.left source.old ≡ Some bytes → length bytes ≤ most_bytes → ImageOf bytes image → refusal image asked ≡ Some kind
         → ¬ Rose (S.faults source.old) (S.faults source.new)
         → OrMemory result (Status.Usage kind) }
     // Input that is no image is refused by its first fault.
-    ensures image { (asked : AskedData) (bytes : List ℕ) (fault : FaultData) → words_mean_plainly (texts words.now) ≡ Ok asked
+    ensures image { (asked : AskedData) (bytes : List ℕ) (fault : FaultData) → words_mean_plainly (texts words.now) ≡ Ok (Run asked)
         → S.left source.old ≡ Some bytes → length bytes ≤ most_bytes → FirstFault bytes fault
         → ¬ Rose (S.faults source.old) (S.faults source.new)
         → OrMemory result (Status.Image fault) }
+    // So is a text that lays out an image, and a faulty one is refused by its first faulty line and the least of its kinds.
+    ensures assembled { (text bytes : List ℕ) → words_mean_plainly (texts words.now) ≡ Ok Assemble
+        → S.left source.old ≡ Some text → length text ≤ most_bytes → Layout text (Ok bytes)
+        → ¬ Rose (S.faults source.old) (S.faults source.new) → ¬ Rose (K.faults out.old) (K.faults out.new)
+        → OrMemory result Status.Done }
+    ensures faulty { (text : List ℕ) (line : ℕ) (kind : AsmData) → words_mean_plainly (texts words.now) ≡ Ok Assemble
+        → S.left source.old ≡ Some text → length text ≤ most_bytes → Layout text (Err (line, kind))
+        → ¬ Rose (S.faults source.old) (S.faults source.new)
+        → OrMemory result (Status.Asm line kind) }
+    ensures long_text { (text : List ℕ) → words_mean_plainly (texts words.now) ≡ Ok Assemble
+        → S.left source.old ≡ Some text → most_bytes < length text
+        → ¬ Rose (S.faults source.old) (S.faults source.new)
+        → OrMemory result Status.TooLong }
+    // A soak needs no input, and isn't refused either.
+    ensures soaked { (number : ℕ) → words_mean_plainly (texts words.now) ≡ Ok (Soak number)
+        → ¬ Rose (K.faults out.old) (K.faults out.new) → OrMemory result Status.Done }
     // Input that is too long is refused as such.
-    ensures too_long { (asked : AskedData) (bytes : List ℕ) → words_mean_plainly (texts words.now) ≡ Ok asked
+    ensures too_long { (asked : AskedData) (bytes : List ℕ) → words_mean_plainly (texts words.now) ≡ Ok (Run asked)
         → S.left source.old ≡ Some bytes → most_bytes < length bytes
         → ¬ Rose (S.faults source.old) (S.faults source.new)
         → OrMemory result Status.TooLong }
@@ -78,13 +100,14 @@ pub fn top_plain<S: Source, K: Sink, E: Sink>(
 }
 
 /// The run in threads that the words ask for, if they ask for one.
-fn read_in_threads(words: &[String]) -> Option<Asked>
-    ensures some { IfSome result (λ asked. (words_mean (texts words.now) ≡ Ok asked) × IsAsked asked × (asked.schedule ≡ Threads)) }
-    ensures none { result ≡ None → words_mean_plainly (texts words.now) ≡ words_mean (texts words.now) }
+fn read_in_threads(alloc: Global, words: &[String]) -> Result<Option<Asked>, NoMemory>
+    ensures some { IfOk result (λ found. IfSome found (λ asked. (words_mean (texts words.now) ≡ Ok (Run asked)) × IsAsked asked × (asked.schedule ≡ Threads))) }
+    ensures none { result ≡ Ok None → words_mean_plainly (texts words.now) ≡ words_mean (texts words.now) }
 {
-    match read_words(words) {
-        Ok(asked) if matches!(&asked.schedule, Schedule::Threads) => Some(asked),
-        _ => None,
+    match read_words(alloc, words) {
+        Ok(Call::Run(asked)) if matches!(&asked.schedule, Schedule::Threads) => Ok(Some(asked)),
+        Err(CallStop::Memory) => Err(NoMemory),
+        _ => Ok(None),
     }
 }
 
@@ -107,29 +130,47 @@ pub fn top<S: Source, K: Sink, E: Sink, G: Gate + Sync, R: Threads + Wait + Sync
     // Words that are refused are refused by this name, whatever the input is.
     ensures usage { (kind : KindData) → words_mean (texts words.now) ≡ Err kind → OrMemory result (Status.Usage kind) }
     // Valid input with no fault counted is never refused.
-    ensures complete { (asked : AskedData) (bytes : List ℕ) (image : ImageData) → words_mean (texts words.now) ≡ Ok asked
+    ensures complete { (asked : AskedData) (bytes : List ℕ) (image : ImageData) → words_mean (texts words.now) ≡ Ok (Run asked)
         → S.left source.old ≡ Some bytes → length bytes ≤ most_bytes → ImageOf bytes image → refusal image asked ≡ None
         → ¬ Rose (S.faults source.old) (S.faults source.new) → ¬ Rose (K.faults out.old) (K.faults out.new)
         → OrMemory result Status.Done }
     // More than an image has, or than a run may take, is refused by its name.
-    ensures excess { (asked : AskedData) (bytes : List ℕ) (image : ImageData) (kind : KindData) → words_mean (texts words.now) ≡ Ok asked
+    ensures excess { (asked : AskedData) (bytes : List ℕ) (image : ImageData) (kind : KindData) → words_mean (texts words.now) ≡ Ok (Run asked)
         → S.left source.old ≡ Some bytes → length bytes ≤ most_bytes → ImageOf bytes image → refusal image asked ≡ Some kind
         → ¬ Rose (S.faults source.old) (S.faults source.new)
         → OrMemory result (Status.Usage kind) }
     // Input that is no image is refused by its first fault.
-    ensures image { (asked : AskedData) (bytes : List ℕ) (fault : FaultData) → words_mean (texts words.now) ≡ Ok asked
+    ensures image { (asked : AskedData) (bytes : List ℕ) (fault : FaultData) → words_mean (texts words.now) ≡ Ok (Run asked)
         → S.left source.old ≡ Some bytes → length bytes ≤ most_bytes → FirstFault bytes fault
         → ¬ Rose (S.faults source.old) (S.faults source.new)
         → OrMemory result (Status.Image fault) }
+    // So is a text that lays out an image, and a faulty one is refused by its first faulty line and the least of its kinds.
+    ensures assembled { (text bytes : List ℕ) → words_mean (texts words.now) ≡ Ok Assemble
+        → S.left source.old ≡ Some text → length text ≤ most_bytes → Layout text (Ok bytes)
+        → ¬ Rose (S.faults source.old) (S.faults source.new) → ¬ Rose (K.faults out.old) (K.faults out.new)
+        → OrMemory result Status.Done }
+    ensures faulty { (text : List ℕ) (line : ℕ) (kind : AsmData) → words_mean (texts words.now) ≡ Ok Assemble
+        → S.left source.old ≡ Some text → length text ≤ most_bytes → Layout text (Err (line, kind))
+        → ¬ Rose (S.faults source.old) (S.faults source.new)
+        → OrMemory result (Status.Asm line kind) }
+    ensures long_text { (text : List ℕ) → words_mean (texts words.now) ≡ Ok Assemble
+        → S.left source.old ≡ Some text → most_bytes < length text
+        → ¬ Rose (S.faults source.old) (S.faults source.new)
+        → OrMemory result Status.TooLong }
+    // A soak needs no input, and isn't refused either.
+    ensures soaked { (number : ℕ) → words_mean (texts words.now) ≡ Ok (Soak number)
+        → ¬ Rose (K.faults out.old) (K.faults out.new) → OrMemory result Status.Done }
     // Input that is too long is refused as such.
-    ensures too_long { (asked : AskedData) (bytes : List ℕ) → words_mean (texts words.now) ≡ Ok asked
+    ensures too_long { (asked : AskedData) (bytes : List ℕ) → words_mean (texts words.now) ≡ Ok (Run asked)
         → S.left source.old ≡ Some bytes → most_bytes < length bytes
         → ¬ Rose (S.faults source.old) (S.faults source.new)
         → OrMemory result Status.TooLong }
     ensures told { Tells (E.held err.old) (E.held err.new) (E.faults err.old) (E.faults err.new) result }
 {
-    let Some(asked) = read_in_threads(words) else {
-        return top_plain(alloc, words, source, out, err);
+    let asked = match read_in_threads(alloc, words) {
+        Ok(Some(asked)) => asked,
+        Ok(None) => return top_plain(alloc, words, source, out, err),
+        Err(NoMemory) => return told(err, Status::Memory),
     };
     let status = perform_in_threads(rt, alloc, &asked, source, out, gate);
     told(err, status)

@@ -1,12 +1,13 @@
-use Rattle.std.proofs.Common.{◌∙◌, sym}
-use Rattle.m386.specs.Words.{texts}
-use Rattle.m386.proofs.Runs.{means_plainly, run_answers, run_in_order}
+use Rattle.std.proofs.Common.{◌≡◌, ◌∙◌, ap, refl, Ok}
+use Rattle.m386_calls.specs.Words.{as_run, in_no_thread, texts, without_threads, words_mean_plainly}
+use Rattle.m386.proofs.Answers.{answered_as_run, memory_answers}
 use Rattle.m386.proofs.perform.perform.Goals as goal
 
-pub returns : goal.returns
-returns g c =
-    let asked = c.in-Ok.asked in
-    let a = c.in-Ok-read_allowed.ensures in
-    let run = c.in-Ok-run_image.ensures in
-    let meant = means_plainly (texts c.args.words.now) asked c.in-Named.order (sym c.read_words.ensures.value ∙ c.in-Ok.is) c.in-Named.is in
-    run_answers _ asked _ _ _ _ _ _ _ _ _ _ meant a.ok (c.report_on.ensures asked a.ok.allowed (run_in_order _ asked c.in-Named.order _ _ _ c.in-Named.is a.count.0 run.run run.in_order))
+pub returns-in-Err-Memory : goal.returns-in-Err-Memory
+returns-in-Err-Memory g c = memory_answers (words_mean_plainly (texts c.args.words.now)) _ _ refl refl
+
+pub returns-in-Run : goal.returns-in-Run
+returns-in-Run g c =
+    let asked = c.in-Run.asked in
+    let e : words_mean_plainly (texts c.args.words.now) ≡ as_run (in_no_thread asked asked.schedule) = ap without_threads (c.in-Ok.ensures.value ∙ ap Ok c.in-Run.is) in
+    answered_as_run _ (in_no_thread asked asked.schedule) _ _ _ e c.perform_run.ensures

@@ -4,10 +4,10 @@ use Rattle.m386.proofs.perform.read_allowed.Goals as goal
 
 pub returns-in-Err-Bad-clause-err : goal.returns-in-Err-Bad-clause-err
 returns-in-Err-Bad-clause-err g c = (
-  c.in-Ok.bytes.items,
-  record { within = c.in-Ok.ensures.ok.0; gave = c.in-Ok.ensures.ok.1; emptied = c.in-Ok.ensures.ok.2 },
+  c.in_ok-bytes.bytes.items,
+  c.in_ok-bytes.ensures.ok,
   rw c.deref.ensures.value at ((c.read_image.ensures.bad _).0 (c.in-Err-Bad.is ∙ ap Err c.in-Err-Bad.field-0-is)),
 )
 
 pub returns-clause-count : goal.returns-clause-count
-returns-clause-count g c = allowed_count c.in-Ok-read_image.image c.args.asked.now c.count_for-cpus.result (_, c.in-Ok-read_image.ensures.ok) c.requires.some c.count_for-cpus.ensures (sym c.excess_of.ensures ∙ c.in-None.is)
+returns-clause-count g c = allowed_count c.in-Ok.image c.args.asked.now c.count_for-cpus.result (_, c.in-Ok.ensures.ok) c.requires.some c.count_for-cpus.ensures (sym c.excess_of.ensures ∙ c.in-None.is)

@@ -46,3 +46,11 @@ unfolding status_line
 returns-in-Image-clause-err g c =
     let e : status_line c.args.status ≡ fault_line (codes "m386: image fault ") c.number-in-Image.result c.as_bytes-name-in-Image.result.now = rw (c.in-Image.is, c.number-in-Image.ensures, c.as_bytes-name-in-Image.ensures.value, c.name-in-Image.ensures) refl in
     rw e c.write_fault-in-Image.ensures.err
+
+pub returns-in-Asm-clause-ok : goal.returns-in-Asm-clause-ok
+unfolding status_line
+returns-in-Asm-clause-ok g c = rw c.in-Asm.is c.write_asm.ensures.ok
+
+pub returns-in-Asm-clause-err : goal.returns-in-Asm-clause-err
+unfolding status_line
+returns-in-Asm-clause-err g c = rw c.in-Asm.is c.write_asm.ensures.err

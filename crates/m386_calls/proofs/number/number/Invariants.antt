@@ -1,7 +1,7 @@
 use Rattle.std.proofs.Common.{◌≡◌, ◌≤◌, drop}
 use Rattle.std.specs.Str.{all_ascii_digits}
-use Rattle.m386.specs.Words.{digits_on}
-use Rattle.m386.proofs.words.number.Given as goal
+use Rattle.m386_calls.specs.Words.{digits_on}
+use Rattle.m386_calls.proofs.number.number.Given as goal
 
 abbrev pub invariant-loop-byte : goal.invariant-loop-byte
 invariant-loop-byte l = record {

@@ -3,7 +3,7 @@ use Rattle.std.proofs.Common.{◌≡◌, ℕ, ◌+◌, ◌-◌, ◌*◌, ◌<◌
 use Rattle.std.specs.Char.{is_ascii_digit}
 use Rattle.std.proofs.lemmas.List.{drop_all}
 use Rattle.std.specs.Str.{all_ascii_digits}
-use Rattle.m386.specs.Words.{digits_on, number_in}
+use Rattle.m386_calls.specs.Words.{digits_on, number_in}
 
 pub digits_next : (ds : List ℕ) (i : ℕ) → i < length ds → all_ascii_digits (drop i ds) ≡ (is_ascii_digit (get_or ds i 0) && all_ascii_digits (drop (i + 1) ds))
 digits_next ds i h = rw (drop-cons ds i 0 h) (rw (add-one i) refl)
