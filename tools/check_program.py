@@ -57,14 +57,18 @@ class Checks:
             self.wrong += 1
             print(f"WRONG: {what}"[:400])
 
-    def call(self, words, data, status, line=""):
+    def call_for_bytes(self, words, data, status, line=""):
         """The output of a call, which has to end so, with this line on err, and with no output but at status 0."""
         ended = subprocess.run([self.program, *words], input=data, capture_output=True, timeout=120)
-        out, err = ended.stdout.decode(), ended.stderr.decode()
+        out, err = ended.stdout, ended.stderr.decode()
         good = ended.returncode == status and err == line and bool(out) == (status == 0)
         shown = [w[:40] for w in words]
         self.want(good, f"{shown} on {len(data)} bytes: {status} {line!r} is wanted, and it was {ended.returncode} {err!r} with {len(out)} bytes written")
         return out
+
+    def call(self, words, data, status, line=""):
+        """The same, of an output that is text."""
+        return self.call_for_bytes(words, data, status, line).decode()
 
     def run(self, words, data):
         """The lines of the report of a call that has to be Done."""
@@ -123,8 +127,8 @@ def statuses(checks):
     """Each status of a call, and its line."""
     one = image()
     for words, kind in [
-        ([], 1), ([""], 1), (["Run"], 1), (["RUN"], 1), (["run "], 1), (["asm"], 1), (["--order=round"], 1), (["--steps=3", "run"], 1),
-        (["run", "run"], 2), ([*ROUND, ""], 2), ([*ROUND, "--"], 2), ([*ROUND, "--frob=1"], 2), ([*ROUND, "run"], 2), ([*ROUND, "--steps"], 2), ([*ROUND, "--steps", "3"], 2),
+        ([], 1), ([""], 1), (["Run"], 1), (["RUN"], 1), (["run "], 1), (["Asm"], 1), (["--order=round"], 1), (["--steps=3", "run"], 1),
+        (["run", "run"], 2), ([*ROUND, ""], 2), ([*ROUND, "--", "3"], 2), ([*ROUND, "--frob=1"], 2), ([*ROUND, "run"], 2), ([*ROUND, "--steps"], 2), ([*ROUND, "--steps", "-1"], 2), ([*ROUND, "--steps", "--cpus=1"], 2), (["run", "--help"], 2), (["run", "-h"], 2),
         ([*ROUND, "-steps=3"], 2), (["run", "--steps=x", "--frob=1"], 2), (["run", "--order=seed", "--seed=1", "--seed=1"], 2), (["run", "--steps=x", "--order=round"], 3), ([*ROUND, "--Steps=3"], 2), ([*ROUND, "--order=round"], 2), ([*ROUND, "--cpus=1", "--cpus=1"], 2),
         ([*ROUND, "--seed=1", "--seed=1"], 2), ([*ROUND, "--steps=1", "--steps=1"], 2),
         (["run", "--seed=x"], 3), (["run", "--steps=x"], 3), (["run", "--order=thread"], 3), (["run", "--order=Threads"], 3), (["run", "--order="], 3), (["run", "--order=Round"], 3), (["run", "--order=rounds"], 3),
@@ -134,17 +138,29 @@ def statuses(checks):
         ([*ROUND, "--cpus=2"], 4), ([*ROUND, "--cpus=8"], 4), (["run", "--cpus=2"], 4), (["run", "--order=threads", "--cpus=2"], 4),
     ]:
         checks.call(words, one, 2, USAGE[kind])
+    for words, kind in [(["asm", "asm"], 2), (["asm", "--steps=3"], 2), (["asm", "--help"], 2), (["Soak"], 1), (["soak", "--steps=3"], 2), (["soak", "--seed"], 2), (["soak", "--seed=1", "--seed=1"], 2), (["soak", "--seed="], 3), (["soak", "--seed=x"], 3)]:
+        checks.call(words, b"", 2, USAGE[kind])
     for words in [[b"\xff"], [b"run", b"--order=\xc3\x28"], [b"run", b"--order=round", b"--steps=\xed\xa0\x80"]]:
         checks.call(words, one, 11, "m386: words unreadable\n")
     edge(checks, one, 3, "m386: read fault\n", source=os.path.dirname(checks.program))
     edge(checks, one, 4, "m386: write fault\n", sink="/dev/full")
 
 
-def edge(checks, data, status, line, source=None, sink=None):
+def spellings(checks):
+    """A value is attached or a word of its own, and a last `--` asks for nothing."""
+    one = image()
+    wanted = checks.call([*ROUND, "--steps=3"], one, 0)
+    for words in [["--steps", "3"], ["--steps=3", "--"], ["--steps", "003", "--cpus", "1", "--seed", "7"]]:
+        checks.want(checks.call([*ROUND, *words], one, 0) == wanted, f"{words} ask for the same run")
+    checks.want(checks.call(["run", "--steps", "3", "--order", "round"], one, 0) == wanted, "an order in a word of its own")
+    checks.want(checks.call(["soak", "--seed", "3"], b"", 0) == checks.call(["soak", "--seed=3", "--"], b"", 0), "a seed in a word of its own")
+
+
+def edge(checks, data, status, line, source=None, sink=None, words=(*ROUND, "--steps=3")):
     """A call whose input or output fails."""
     given = os.open(source, os.O_RDONLY) if source else subprocess.PIPE
     with open(sink or os.devnull, "wb") as out:
-        ended = subprocess.run([checks.program, *ROUND, "--steps=3"], stdin=given if source else None, input=None if source else data, stdout=out, stderr=subprocess.PIPE, timeout=120)
+        ended = subprocess.run([checks.program, *words], stdin=given if source else None, input=None if source else data, stdout=out, stderr=subprocess.PIPE, timeout=120)
     if source:
         os.close(given)
     checks.want((ended.returncode, ended.stderr.decode()) == (status, line), f"a failing edge: {status} is wanted, and it was {ended.returncode} {ended.stderr!r}")
@@ -230,6 +246,67 @@ def threads(checks):
     # Each adds to one byte under LOCK, four times: no group is split, so nothing is lost.
     lines = checks.call(["run", "--steps=4"], image(bytes.fromhex("f0fe0500200000" * 4), cpus=8), 0).splitlines()
     checks.want([c[-1] for c in cycles(lines) if c[5] == "data" and c[3] == "w"] == [f"{n:08x}" for n in range(1, 33)], "32 additions under LOCK")
+
+
+def schedulers(number):
+    """The source text of the image that is made from a number."""
+    cpus, workers = 2 + number % 3, 1 + number // 3 % 4
+    tasks = range(cpus + workers)
+    lines = [".memory 65536", f".cpus {cpus}", f".gdt 0x1000 {8 * (3 + len(tasks)) - 1}", ".idt 0x2000 0x107"]
+    lines += [f".task {p} {24 + 8 * p}" for p in range(cpus)]
+    lines += [f".plan {p} {50 * k} 32" for p in range(cpus) for k in range(1, 11)]
+    lines += [".org 0x1000", ".desc 0 0 0 0", ".desc 0 0xfffff 0x9a 0xc", ".desc 0 0xfffff 0x92 0xc"]
+    lines += [f".desc {0x3000 + 0x80 * task} 0x67 0x89 0" for task in tasks]
+    lines += [".org 0x2068", ".gate 8 0x5000 0x8f 0", ".org 0x2100", ".gate 8 0x5100 0x8e 0"]
+    for task in tasks:
+        begin = 0x4000 + 0x100 * task if task < cpus else 0x4800 + 0x100 * (task - cpus)
+        lines += [f".org {0x3000 + 0x80 * task}", f".tss eip={begin} efl=0x202 esp={0x9000 + 0x400 * task} cs=8 ss=0x10 ds=0x10"]
+    for p in range(cpus):
+        lines += [f".org {0x4000 + 0x100 * p}", f"s{p}: lock inc dword [0x8000]", *[f"call {24 + 8 * (cpus + i)}:0" for i in range(workers)], f"jmp s{p}"]
+    for i in range(workers):
+        lines += [f".org {0x4800 + 0x100 * i}", f"w{i}: lock inc dword [{0x8004 + 4 * i}]", "iret", f"jmp w{i}"]
+    lines += [".org 0x5000", "add esp, 4", "add dword [esp], 7", "iret", ".org 0x5100", "iret"]
+    return "\n".join(lines).encode()
+
+
+def soaks(checks):
+    """The line of a soak: what it counts is counted in the report of the same run, of an image that `asm` makes of the text; and the input isn't read."""
+    for number in (*range(12), 2**64 - 1):
+        line = checks.call(["soak", f"--seed={number}"], b"", 0)
+        made = checks.call_for_bytes(["asm"], schedulers(number), 0)
+        report = checks.call(["run", "--order=seed", f"--seed={number}", "--steps=1000"], made, 0).splitlines()
+        claims = [c for c in cycles(report) if c[5].startswith("claim")]
+        tasks = [t for t in report if t.startswith("t ")]
+        wanted = f"soak {number} cpus {2 + number % 3} tasks {len(tasks)} cycles {len(cycles(report))} claims {len(claims)} {report[-1]}\n"
+        checks.want(line == wanted and claims and tasks, f"the line of the soak {number}: {line!r} for {wanted!r}")
+        checks.want(checks.call(["run", "--steps", "2000"], made, 0).splitlines()[-1] == "clean", f"a clean run in threads of the image {number}")
+    checks.want(checks.call(["soak"], b"", 0) == checks.call(["soak", "--seed=1"], b"", 0), "no seed is the seed 1")
+    edge(checks, b"", 4, "m386: write fault\n", sink="/dev/full", words=["soak"])
+    edge(checks, b"", 0, "", source=os.path.dirname(checks.program), words=["soak"])
+
+
+KINDS = ["Ascii", "Token", "Number", "Mnemonic", "Operands", "UnknownName", "NameTwice", "Directive", "Arguments", "HeaderTwice", "HeaderMissing", "Range", "Overlap", "PlanOrder"]
+HEADERS = ".memory 16384\n.cpus 1\n"
+FIRST_TEXT = HEADERS + ".bare 0 begin ; no task\n.org 0x1000\nbegin: mov eax, 0x12345678\n\tmov [0x2000], eax\n\thlt\n"
+
+
+def texts(checks):
+    """The image of a source text, one text for each kind of fault, and what the edges and the length of the input do to `asm`."""
+    for text in (FIRST_TEXT, FIRST_TEXT[:-1]):
+        checks.want(checks.call_for_bytes(["asm"], text.encode(), 0) == image(), "the image of a text")
+    checks.want(checks.call_for_bytes(["asm", "--"], FIRST_TEXT.encode(), 0) == image(), "the same behind a last --")
+    faults = [
+        "hlt \x7f", "mov eax, #1", "mov eax, 08", "frob", "mov eax", "mov eax, x", "x = 1\nx = 1", ".frob 1", ".byte", ".cpus 1", None, ".byte 256", ".org 16\n.org 15", ".plan 0 5 33\n.plan 0 5 33",
+    ]
+    for number, (kind, lines) in enumerate(zip(KINDS, faults), 1):
+        text = ".memory 16384\n" if lines is None else HEADERS + lines
+        line = 2 if lines is None else text.count("\n") + 1
+        checks.call(["asm"], text.encode(), 6, f"m386: line {line}: fault {number} {kind}\n")
+    checks.call(["asm"], b"", 6, "m386: line 1: fault 11 HeaderMissing\n")
+    checks.call(["asm"], FIRST_TEXT.encode() + bytes(MOST_BYTES + 1 - len(FIRST_TEXT)), 7, "m386: input too long\n")
+    checks.call(["asm"], FIRST_TEXT.encode() + b";" * (MOST_BYTES - len(FIRST_TEXT) - 1) + b"\x7f", 6, "m386: line 8: fault 1 Ascii\n")
+    edge(checks, None, 3, "m386: read fault\n", source=os.path.dirname(checks.program), words=["asm"])
+    edge(checks, FIRST_TEXT.encode(), 4, "m386: write fault\n", sink="/dev/full", words=["asm"])
 
 
 def ample(checks):
@@ -445,7 +522,7 @@ def verdicts(checks):
 
 def main():
     checks = Checks(sys.argv[1])
-    for part in (statuses, reports, limits, causes, orders, first_drawn, threads, ample, plans, switches, starts, verdicts):
+    for part in (statuses, spellings, reports, limits, causes, orders, first_drawn, threads, texts, soaks, ample, plans, switches, starts, verdicts):
         part(checks)
     print(f"{sys.argv[1]}: {checks.made} checks of the program, {checks.wrong} wrong")
     return 1 if checks.wrong else 0

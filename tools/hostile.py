@@ -1,14 +1,15 @@
 #!/usr/bin/env python3
-"""Runs the program on broken images and odd words, and prints which status came how often.
+"""Runs the program on broken images, broken source texts and odd words, and prints which status came how often.
 
 usage: hostile.py PROGRAM IMAGE [CHANGES [SEED]]
 
 PROGRAM is the built program, IMAGE an image with one section that it runs, CHANGES how many random changes of the image
-are tried (3000).
+and of the source texts in examples/ are tried (3000).
 Every answer has to be one that the table of statuses names: its number, its text on err, and nothing on out but at
-status 0, where a whole report stands there, and at 4, where a front of it does. Any other answer is printed, and ends
+status 0, where a whole report, image or line stands there, and at 4, where a front of it does. Any other answer is printed, and ends
 this script with status 1.
 """
+import glob
 import os
 import random
 import re
@@ -18,6 +19,11 @@ from collections import Counter
 
 REPORT = re.compile(
     rb"m386 report 1\nmemory [0-9a-f]{8} cpus \d\n(c [0-7] [^\n]*\n)*(p [0-7] [^\n]*\n)+(t [^\n]*\n)*(clean|unclean [^\n]*)\n\Z"
+)
+SOAK = re.compile(rb"soak \d+ cpus [2-4] tasks [3-8] cycles \d+ claims \d+ (clean|unclean rule \d+( at \d+)?)\n\Z")
+MADE = re.compile(rb"M386\x01\x00.*", re.S)
+FAULTY = re.compile(
+    rb"m386: line \d+: fault (1 Ascii|2 Token|3 Number|4 Mnemonic|5 Operands|6 UnknownName|7 NameTwice|8 Directive|9 Arguments|10 HeaderTwice|11 HeaderMissing|12 Range|13 Overlap|14 PlanOrder)\n"
 )
 USAGE = [b"1 Command", b"2 Line", b"3 Value", b"4 Cpus", b"5 Budget"]
 IMAGE = [
@@ -63,8 +69,9 @@ class Tries:
         """A call whose input, output and err are pipes that serve."""
         ended = subprocess.run([self.program, *words], input=data, capture_output=True, timeout=120)
         status, out, err = ended.returncode, ended.stdout, ended.stderr
-        named = err in TEXTS.get(status, [])
-        shape = bool(REPORT.match(out)) if status == 0 else out == b""
+        named = bool(FAULTY.fullmatch(err)) if status == 6 else err in TEXTS.get(status, [])
+        form = {"soak": SOAK, "asm": MADE}.get(words[0] if words else "", REPORT)
+        shape = bool(form.fullmatch(out)) if status == 0 else out == b""
         self.count(group, status, err, named and shape, words, out)
 
     def call_over(self, group, wanted, path, out=subprocess.PIPE, err=subprocess.PIPE):
@@ -103,6 +110,43 @@ def code_changed(image, chance):
     return image[:-11] + code
 
 
+def text_changed(text, chance):
+    """A copy of the text with one to four pieces replaced, put in, left out or moved: bytes, words and whole lines."""
+    for _ in range(chance.randint(1, 4)):
+        lines = text.split(b"\n")
+        place = chance.randrange(len(lines))
+        how = chance.randrange(5)
+        if how == 0:
+            lines[place] = changed(lines[place], chance)
+        elif how == 1:
+            lines.insert(chance.randrange(len(lines) + 1), lines[place])
+        elif how == 2:
+            del lines[place]
+        else:
+            words = re.split(rb"([ ,:+*\[\]=]+)", lines[place])
+            others = re.split(rb"([ ,:+*\[\]=]+)", chance.choice(lines))
+            words[chance.randrange(len(words))] = chance.choice([*others, b"", b"-", b"0x", b"4294967296", b"4294967295", b"256", b"x", b"far", b"lock", b".org", b"\t"])
+            lines[place] = b"".join(words)
+        text = b"\n".join(lines) or b"\n"
+    return text
+
+
+def try_texts(tries, count, chance):
+    """Source texts: those of the examples, and what they are where they end early or are changed."""
+    here = os.path.dirname(os.path.dirname(os.path.abspath(__file__)))
+    texts = []
+    for name in sorted(glob.glob(os.path.join(here, "examples", "**", "*.asm"), recursive=True)):
+        with open(name, "rb") as file:
+            texts.append(file.read())
+    for text in texts:
+        tries.call("a text", ["asm"], text)
+        tries.call("a text truncated", ["asm"], text[: chance.randrange(len(text))])
+    for _ in range(count):
+        tries.call("a text changed at random", ["asm"], text_changed(chance.choice(texts), chance))
+    for data in [b"", b"\n", b"\0", b"\xff", b";" * MOST, b"\n" * 1_000_000, b"x" * 1_000_000, b"," * 1_000_000, b"[" * 1_000_000, b"x:" * 500_000, bytes(MOST + 1), chance.randbytes(4096)]:
+        tries.call("no text", ["asm"], data)
+
+
 def words_to_try():
     """Words in a wrong order, twice, empty, very long, near the limits, and bytes that are no text."""
     long = "x" * 100_000
@@ -137,6 +181,12 @@ def words_to_try():
         ["run", "--order=round", "--steps=x", "--frob"], [long], ["run", long], ["run", "--order=" + long],
         ["run", "--order=round", "--steps=" + long], ["run"] + ["--steps=3"] * 1000, ["run"] + [""] * 1000, ["run"] + ["--steps=" + long] * 12,
         ["ü"], ["run", "--order=ründ"],
+        ["run", "--order", "round", "--steps", "3", "--cpus", "1", "--seed", "1"], ["run", "--order", "round", "--steps", "-1"], ["run", "--order", "round", "--"], ["run", "--order", "--", "round"],
+        ["run", "--order=round", "--steps", ""], ["run", "--order=round", "--steps", "-"], ["run", "-"], ["run", "--help"], ["run", "-h"], ["run", "--version"], ["run", "--order", long], ["run"] + ["--steps", "3"] * 1000,
+        ["asm", ""], ["asm", "asm"], ["asm", "--"], ["asm", "--steps=3"], ["asm", "--help"], ["Asm"], ["asm "], ["asm", long], ["asm"] + [""] * 1000,
+        ["soak", ""], ["soak", "soak"], ["soak", "--seed=3"], ["soak", "--seed=0"], ["soak", "--seed=18446744073709551615"], ["soak", "--seed=18446744073709551616"],
+        ["soak", "--seed="], ["soak", "--seed=-1"], ["soak", "--seed"], ["soak", "--seed", "3"], ["soak", "--seed=1", "--seed=1"], ["soak", "--steps=3"],
+        ["soak", "--order=seed"], ["soak", "--seed=3", ""], ["soak", "--"], ["Soak"], ["soak "], ["--seed=3", "soak"], ["soak", "--seed=" + long], ["soak"] + ["--seed=3"] * 1000,
     ]
 
 
@@ -183,6 +233,7 @@ def main():
         tries.call("longer", RUN, image + bytes(more))
     for size in (0, 1, 63, 64, 4096, 1_000_000):
         tries.call("no image", RUN, chance.randbytes(size))
+    try_texts(tries, count, chance)
     for words in words_to_try():
         tries.call("words", words, image)
         tries.call("words, no input", words, b"")
