@@ -1,0 +1,16 @@
+.memory 16384
+.cpus 1
+.gdt 0x1800 0x1f
+.bare 0 begin
+.org 0x1000
+begin:
+    mov ax, 0x18
+    mov ds, ax
+    mov dword [0xfc], 0x11111111
+    mov dword [0xfd], 0x22222222
+    hlt
+.org 0x1800
+.desc 0 0 0 0
+.desc 0 0xfffff 0x9b 0xc          ; 08: code
+.desc 0 0xfffff 0x93 0xc          ; 10: data
+.desc 0x2000 0xff 0x93 4          ; 18: 256 bytes at 2000h

@@ -1,0 +1,23 @@
+.memory 65536
+.cpus 1
+.gdt 0x1000 0x37
+.task 0 0x28
+.org 0x1000
+.desc 0 0 0 0
+.desc 0 0xfffff 0x9b 0xc          ; 08: code
+.desc 0 0xfffff 0x93 0xc          ; 10: data
+.desc 0 0xfffff 0xfb 0xc          ; 18: code of level 3
+.desc 0 0xfffff 0xf3 0xc          ; 20: data of level 3
+.desc 0x3000 0x67 0x89 0          ; 28: a task
+.gate 8 service 0xec 1            ; 30: a call gate for level 3, one parameter
+.org 0x3000
+.tss eip=user efl=2 esp=0x6000 cs=0x1b ss=0x23 ds=0x23 esp0=0x5000 ss0=0x10
+.org 0x4000
+user:
+    push 0x1234
+    call 0x33:0
+    jmp user
+.org 0x4100
+service:
+    mov eax, [esp+8]
+    retf 4

@@ -1,0 +1,17 @@
+; Row 1 by INT through a task gate in the IDT: the gate of vector 20h is a task gate, so its delivery is a task switch, but TR holds no task.
+.memory 65536
+.cpus 1
+.gdt 0x1000 0x27
+.idt 0x2000 0x107
+.bare 0 first
+.org 0x1000
+.desc 0 0 0 0
+.desc 0 0xfffff 0x9b 0xc          ; 08: code
+.desc 0 0xfffff 0x93 0xc          ; 10: data
+.desc 0 0 0 0                     ; 18: nothing
+.desc 0x3080 0x67 0x89 0          ; 20: a task
+.org 0x2100
+.gate 0x20 0 0x85 0               ; vector 20h: a task gate to 20
+.org 0x4000
+first:
+    int 0x20
