@@ -18,6 +18,7 @@ use m386_trace::cycle::cycle_line;
 use m386_trace::machine::machine_line;
 use m386_trace::proc::proc_line;
 use m386_trace::report::report;
+use m386_trace::soak::soak_line;
 use m386_trace::task::task_line;
 use m386_trace::verdict::verdict_line;
 use m386_trace::words::role_word;
@@ -451,4 +452,79 @@ fn tasks_have_lines_by_the_places_of_their_fields(rt: HostRuntime) -> Result<(),
     };
     assert_eq!(rt; absent.as_str(), ABSENT_TASK);
     Ok(())
+}
+
+/// Roles of cycles that claim a task.
+const CLAIMS: [Role; 4] = [
+    Role::ClaimJmp,
+    Role::ClaimCall,
+    Role::ClaimStart,
+    Role::ClaimLtr,
+];
+
+/// Roles of cycles that don't, those of a switch among them.
+const NO_CLAIMS: [Role; 12] = [
+    Role::Fetch,
+    Role::Operand,
+    Role::Gdt,
+    Role::GdtAcc,
+    Role::Tss,
+    Role::Save,
+    Role::Link,
+    Role::Back,
+    Role::RelJmp,
+    Role::RelRet,
+    Role::Load,
+    Role::Map,
+];
+
+#[test]
+fn claims_count_in_a_soak(rt: HostRuntime) {
+    let tables: [(&[Role], &str); 2] = [
+        (&CLAIMS, "soak 3 cpus 2 tasks 4 cycles 2 claims 1 clean\n"),
+        (
+            &NO_CLAIMS,
+            "soak 3 cpus 2 tasks 4 cycles 2 claims 0 clean\n",
+        ),
+    ];
+    for (roles, wanted) in tables {
+        for role in roles {
+            let cycles = [
+                made(FETCH),
+                made(Ask {
+                    role: *role,
+                    ..STORE
+                }),
+            ];
+            assert_eq!(rt;
+                soak_line(3, 2, 4, &cycles, &Verdict::Clean).as_str(),
+                wanted,
+                "{role:?}"
+            );
+        }
+    }
+}
+
+#[test]
+fn verdicts_of_soaks(rt: HostRuntime) {
+    let lines = [
+        (
+            Verdict::Clean,
+            "soak 18446744073709551615 cpus 8 tasks 0 cycles 0 claims 0 clean\n",
+        ),
+        (
+            Verdict::Static(5),
+            "soak 18446744073709551615 cpus 8 tasks 0 cycles 0 claims 0 unclean rule 5\n",
+        ),
+        (
+            Verdict::At {
+                rule: 7,
+                index: 65_536,
+            },
+            "soak 18446744073709551615 cpus 8 tasks 0 cycles 0 claims 0 unclean rule 7 at 65536\n",
+        ),
+    ];
+    for (verdict, wanted) in lines {
+        assert_eq!(rt; soak_line(u64::MAX, 8, 0, &[], &verdict).as_str(), wanted);
+    }
 }
