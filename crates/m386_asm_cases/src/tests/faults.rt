@@ -150,7 +150,7 @@ const HEADLESS: [(&str, u32, AsmKind); 17] = [
     ),
     (".cpus 9\n.memory 4096", 1, AsmKind::Range),
     (".cpus 0\n.memory 4096", 1, AsmKind::Range),
-    (".cpus 1\n.memory 4097", 2, AsmKind::Range),
+    (".cpus 1\n.memory 6144", 2, AsmKind::Range),
     (".cpus 1\n.memory 16781312", 2, AsmKind::Range),
     (".cpus 1\n.memory 0", 2, AsmKind::Range),
     (".cpus 1\n.memory y", 2, AsmKind::UnknownName),
